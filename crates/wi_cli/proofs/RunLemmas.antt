@@ -1,5 +1,5 @@
 -- Runs, one after another.
-use Rattle.wi_cli.proofs.Vocabulary.{◌≡◌, ℕ, List, [], ◌∷◌, ◌++◌, refl, sym, ap, ◌∙◌, subst, Option, None, Some, Ok, Err, append-nil, inl, inr, concat, option_to_list, concat-append, Refusal, refused, State, Reply, Passed, Done, MayAnswer, WritesReplies, Told, told_bytes, RefusedAs}
+use Rattle.wi_cli.proofs.Vocabulary.{◌≡◌, ℕ, List, [], ◌∷◌, ◌++◌, refl, sym, ap, ◌∙◌, subst, Option, None, Some, Ok, Err, append-nil, inl, inr, concat, option_to_list, concat-append, Refusal, refused, State, Reply, Passed, Done, MayAnswer, WritesReplies, Told, reply_bytes, RefusedAs}
 use Rattle.wi_scenarios.specs.declared.refusal.Refusal.TheVariants.{Memory}
 use Rattle.wi_scenarios.specs.Step.{Call, IsCallStep}
 use Rattle.wi_cli.specs.declared.reply.Reply.TheVariants.{Refused}
@@ -33,7 +33,7 @@ refused_is s c Memory t h k = inr (record { reply_is = refl; state_is = h; may =
 refused_is s c e t h k = answered_by s c e t h k
 
 -- what is told of a line is a run of its command
-pub WritesReplies-told : (o : Option Call) (a : Reply) (s t : State) (out : List ℕ) → Told o a s t out → WritesReplies s (option_to_list o) (told_bytes a out) t
+pub WritesReplies-told : (o : Option Call) (a : Reply) (s t : State) (out : List ℕ) → Told o a s t out → WritesReplies s (option_to_list o) (reply_bytes a out) t
 WritesReplies-told None Passed s t out h = subst (λ (x : State). WritesReplies s [] [] x) (sym h) (WritesReplies-none s)
 WritesReplies-told None Done s t out h = absurd h
 WritesReplies-told None (Refused e) s t out h = absurd h

@@ -1,5 +1,5 @@
 -- A line served, and its reply written.
-use Rattle.wi_cli.proofs.Vocabulary.{◌≡◌, ℕ, ◌+◌, ◌<◌, ◌≤◌, Bool, ◌||◌, not, cond, ltb, ap, refl, ◌∙◌, ⊎_elim, Some, List, ◌++◌, length, take, drop, sym, subst, Option, None, [], Appends-nil, length-append, arith, option_to_list, Appends, Appends-trans, take-append-drop, take-append-le, length-take, take_all, lt-ltb, cases_lt, is_utf8, Refused, without_cr, take-append-add, AppendsFront, State, Passed, Reply, Told, told_bytes, csv_line, line_command, text_command, line_front, RunFault, Result, Err, Broke, Memory, Read, Write, ScriptLimit, TookLine, TookBlock, BrokeBlock, Turned, Stopped, WritesReplies, Ok, MatchResult, CanRead, ReadsOn, IsReplied}
+use Rattle.wi_cli.proofs.Vocabulary.{◌≡◌, ℕ, ◌+◌, ◌<◌, ◌≤◌, Bool, ◌||◌, not, cond, ltb, ap, refl, ◌∙◌, ⊎_elim, Some, List, ◌++◌, length, take, drop, sym, subst, Option, None, [], Appends-nil, length-append, arith, option_to_list, Appends, Appends-trans, take-append-drop, take-append-le, length-take, take_all, lt-ltb, cases_lt, is_utf8, Refused, without_cr, take-append-add, AppendsFront, State, Passed, Reply, Told, reply_bytes, csv_line, line_command, text_command, line_front, RunFault, Result, Err, Broke, Memory, Read, Write, ScriptLimit, TookLine, TookBlock, BrokeBlock, Turned, Stopped, WritesReplies, Ok, MatchResult, CanRead, ReadsOn, IsReplied}
 use Rattle.wi_scenarios.specs.Step.{Call}
 use Rattle.wi_scenarios.specs.declared.refusal.Refusal.TheVariants.{BadLine}
 use Rattle.wi_cli.specs.Inner.Turn.{CutShort}
@@ -41,9 +41,9 @@ asked_block whole b l b' l' line front count count' command most k e same none i
     (plain_block whole b l b' l' line count count' most k e (no_csv front k.content read none))
 
 pub turned : (whole : Bool) (b : List ℕ) (l : Option (List ℕ)) (b' : List ℕ) (l' : Option (List ℕ)) (count count' : ℕ) (s t : State) (w w' : Option (List ℕ)) (command : Option Call) (a : Reply) (out : List ℕ)
-    → TookBlock command whole b l b' l' count count' → Told command a s t out → Appends w w' (told_bytes a out) → Turned whole b l b' l' count count' s t w w'
+    → TookBlock command whole b l b' l' count count' → Told command a s t out → Appends w w' (reply_bytes a out) → Turned whole b l b' l' count count' s t w w'
 turned whole b l b' l' count count' s t w w' command a out k told h =
-    record { command = command; block = k; out = told_bytes a out; written = h; writes = WritesReplies-told command a s t out told }
+    record { command = command; block = k; out = reply_bytes a out; written = h; writes = WritesReplies-told command a s t out told }
 
 -- a line that is passed over
 pub passed : (whole : Bool) (b : List ℕ) (l : Option (List ℕ)) (b' : List ℕ) (l' : Option (List ℕ)) (count count' : ℕ) (s : State) (w : Option (List ℕ))
@@ -59,16 +59,16 @@ stopped Write b l b' l' count s t w w' k same kept = absurd k.broke.cause
 stopped ScriptLimit b l b' l' count s t w w' k same kept = (k, same, kept)
 
 pub cut_short : (whole : Bool) (b : List ℕ) (l : Option (List ℕ)) (b' : List ℕ) (l' : Option (List ℕ)) (count count' : ℕ) (s t : State) (w w' : Option (List ℕ)) (command : Option Call) (a : Reply) (out : List ℕ)
-    → TookBlock command whole b l b' l' count count' → Told command a s t out → AppendsFront w w' (told_bytes a out) → CutShort b l b' l' count s t w w'
+    → TookBlock command whole b l b' l' count count' → Told command a s t out → AppendsFront w w' (reply_bytes a out) → CutShort b l b' l' count s t w w'
 cut_short whole b l b' l' count count' s t w w' command a out k told h = record {
   whole = whole;
   count' = count';
   command = command;
   block = k;
-  out = take h.0 (told_bytes a out);
-  unwritten = drop h.0 (told_bytes a out);
+  out = take h.0 (reply_bytes a out);
+  unwritten = drop h.0 (reply_bytes a out);
   written = h.2;
-  writes = subst (λ x. WritesReplies s (option_to_list command) x t) (sym (take-append-drop h.0 (told_bytes a out))) (WritesReplies-told command a s t out told);
+  writes = subst (λ x. WritesReplies s (option_to_list command) x t) (sym (take-append-drop h.0 (reply_bytes a out))) (WritesReplies-told command a s t out told);
 }
 
 -- a block was taken and served, and its reply was written, or a front of it

@@ -40,7 +40,7 @@ pub use Rattle.wi_cli.specs.Inner.LookCommands.{changes_command, compare_command
 pub use Rattle.wi_cli.specs.Inner.Operands.{at_end, is_all_spaces, line_fault, name_or_none, of_name, of_operand, only_name, read_side, unless_refused, worse}
 pub use Rattle.wi_cli.specs.Inner.Reading.{Broke, CanRead, HasStopped, ReadsOn, TookLine, TookPart, raw}
 unfoldable pub use Rattle.wi_cli.specs.Inner.Reading.{line_front}
-pub use Rattle.wi_cli.specs.Inner.Reply.{reply, told_cell}
+pub use Rattle.wi_cli.specs.Inner.Reply.{reply, refused_cell}
 unfoldable pub use Rattle.wi_cli.specs.Inner.Reply.{refused}
 pub use Rattle.wi_cli.specs.Inner.Run.{MayAnswer, WritesReplies}
 pub use Rattle.wi_cli.specs.Inner.RunOutcome.{RunOutcome, WritesFrontOfReplies}
@@ -51,12 +51,12 @@ unfoldable pub use Rattle.wi_cli.specs.Inner.Script.{all_commands, complete_comm
 pub use Rattle.wi_cli.specs.Inner.Spelling.{IsCommandOf, command_of}
 pub use Rattle.wi_cli.specs.Inner.TableCommand.{table_command, table_of_one, table_of_two}
 pub use Rattle.wi_cli.specs.Inner.Taken.{AreBlocks, AreBlocksOf, AreWhole, BrokeLines, TookLines}
-pub use Rattle.wi_cli.specs.Inner.Told.{IsServed, RefusedAs, Told, told_bytes}
+pub use Rattle.wi_cli.specs.Inner.Told.{IsServed, RefusedAs, Told, reply_bytes}
 pub use Rattle.wi_cli.specs.Inner.Turn.{BrokeBlock, IsReplied, Stopped, TookBlock, Turned}
 pub use Rattle.wi_cli.specs.Laws.{HasCommands, HasOneAnswer, SameAddr, SameCommands, SameLack, SameOutcome, SameRect, SameReply, SameRuns, SameStep, Splits, a_line, asked, before, cut_short, blocks_that_count, line_block, none, read_any, read_by, read_cell, read_area, was}
 pub use Rattle.wi_cli.specs.Lines.{Bytes, after_word, first_word, is_space, is_whole, max_line, max_lines, onto_first, raw_lines, skip_spaces, without_cr, without_lf}
 pub use Rattle.wi_cli.specs.Outcome.{IsRun, Outcome, Writes}
-pub use Rattle.wi_cli.specs.Reply.{Replies, accepted, cell_told, late, unserved}
+pub use Rattle.wi_cli.specs.Reply.{Replies, accepted, cell_named, late, unserved}
 pub use Rattle.wi_cli.specs.Script.{AreCommands, Asks, IsCommand, IsGood, IsWithin, is_passed_over, line_text}
 pub use Rattle.wi_cli.specs.Spelled.{IsAddr, IsRect, IsSpelled, IsWritten, a_cell, addr, two_cells}
 pub use Rattle.wi_cli.specs.declared.data_lines.DataLines.{DataLines}

@@ -11,9 +11,9 @@ use Rattle.wi_scenarios.specs.Commands.Does.{Does}
 use Rattle.wi_cli.specs.Lines.{Bytes}
 
 -- behind the code of a stale edit a space and the cell
-abbrev pub cell_told : Cause → Option ℕ → Bytes
-cell_told Stale (Some at) = codes " " ++ address_text at
-cell_told cause o = []
+abbrev pub cell_named : Cause → Option ℕ → Bytes
+cell_named Stale (Some at) = codes " " ++ address_text at
+cell_named cause o = []
 
 -- the causes that are found only once something may have grown
 abbrev pub late : List Cause
@@ -33,5 +33,5 @@ pub data Replies (s : State) (c : Command) : Bytes → State → Type 0 where
   accepted : (t : State) (records : Bytes) → ((cause : Cause) → Holds s cause c → ⊥) → Does s c (t, records)
       → Replies s c (records ++ codes "ok\n") t
   refused : (cause : Cause) (code : Bytes) → IsFirst s c order (cause, code)
-      → Replies s c (codes "refused E" ++ code ++ cell_told cause (stale_cell s c) ++ codes "\n") s
+      → Replies s c (codes "refused E" ++ code ++ cell_named cause (stale_cell s c) ++ codes "\n") s
   unserved : MayLackMemory s c → Replies s c (codes "refused E01\n") s

@@ -3,8 +3,8 @@
 ghost use Rattle.std.specs.Prelude.{◌≡◌, ◌<◌, false, is_err, OnOk, OnErr};
 ghost use Rattle.std.specs.Io.KnownBytes.{Appends};
 ghost use Rattle.wi_cli.specs.Inner.Front.{AppendsFront};
-ghost use Rattle.wi_cli.specs.Inner.Reply.{refused, refused_code, told_cell};
-ghost use Rattle.wi_cli.specs.Inner.Told.{told_bytes};
+ghost use Rattle.wi_cli.specs.Inner.Reply.{refused, refused_code, refused_cell};
+ghost use Rattle.wi_cli.specs.Inner.Told.{reply_bytes};
 
 use crate::write::write_all;
 use crate::write_address::write_address;
@@ -25,9 +25,9 @@ pub enum Reply {
 fn write_cell<W: Sink>(writer: &mut W, refusal: &Refusal) -> Result<(), DeviceFault>
     requires { W.has_failed writer.old ≡ false }
     ensures ok { OnOk result
-        (Appends (W.contents writer.old) (W.contents writer.new) (told_cell refusal.now)) }
+        (Appends (W.contents writer.old) (W.contents writer.new) (refused_cell refusal.now)) }
     ensures err { OnErr result
-        (AppendsFront (W.contents writer.old) (W.contents writer.new) (told_cell refusal.now)) }
+        (AppendsFront (W.contents writer.old) (W.contents writer.new) (refused_cell refusal.now)) }
     ensures failed { W.has_failed writer.new ≡ is_err result }
 {
     match refusal {
@@ -79,9 +79,9 @@ pub(crate) fn write_reply<W: Sink>(
 ) -> Result<(), DeviceFault>
     requires { W.has_failed writer.old ≡ false }
     ensures ok { OnOk result
-        (Appends (W.contents writer.old) (W.contents writer.new) (told_bytes reply records.now)) }
+        (Appends (W.contents writer.old) (W.contents writer.new) (reply_bytes reply records.now)) }
     ensures err { OnErr result (AppendsFront (W.contents writer.old)
-        (W.contents writer.new) (told_bytes reply records.now)) }
+        (W.contents writer.new) (reply_bytes reply records.now)) }
     ensures failed { W.has_failed writer.new ≡ is_err result }
 {
     match reply {

@@ -11,8 +11,8 @@ first_within r a h =
 
 pub first_is : (r : Area) (at x : ℕ) (b : Bool) (o : Option ℕ) → at ≡ r.first → x ≡ r.first → b ≡ is_within r at → o ≡ then_some b x → IsFirst (is_within r) o
 first_is r at x b o e f w t =
-    let told : o ≡ then_some (is_within r r.first) r.first = t ∙ ap (λ c. then_some c x) (w ∙ ap (is_within r) e) ∙ ap (then_some (is_within r r.first)) f in
-    subst (IsFirst (is_within r)) (sym told) (by (is_within r r.first) refl)
+    let by_notes : o ≡ then_some (is_within r r.first) r.first = t ∙ ap (λ c. then_some c x) (w ∙ ap (is_within r) e) ∙ ap (then_some (is_within r r.first)) f in
+    subst (IsFirst (is_within r)) (sym by_notes) (by (is_within r r.first) refl)
   where
     by : (c : Bool) → is_within r r.first ≡ c → IsFirst (is_within r) (then_some c r.first)
     by true h = record { passes = h; least = λ a k. (within_between r a k).0 }
@@ -92,38 +92,38 @@ module _ (r : Area) (at : ℕ) (next : Option ℕ) (w : is_within r at ≡ true)
 
 -- ---- a search for the first cell that is told
 
-pub record IsSearched (r : Area) (told : ℕ → Bool) (ahead : Option ℕ) : Type 0 where
+pub record IsSearched (r : Area) (by_notes : ℕ → Bool) (ahead : Option ℕ) : Type 0 where
   pub within : IfSome ahead (λ a. is_within r a ≡ true)
-  pub none : (a : ℕ) → (is_within r a && is_before ahead a) ≡ true → told a ≡ false
+  pub none : (a : ℕ) → (is_within r a && is_before ahead a) ≡ true → by_notes a ≡ false
 
-pub searched_start : (r : Area) (told : ℕ → Bool) (ahead : Option ℕ) → IsFirst (is_within r) ahead → IsSearched r told ahead
-searched_start r told ahead h = record {
+pub searched_start : (r : Area) (by_notes : ℕ → Bool) (ahead : Option ℕ) → IsFirst (is_within r) ahead → IsSearched r by_notes ahead
+searched_start r by_notes ahead h = record {
   within = h.passes;
   none = λ a t. absurd (both_ways (is_within r a && is_before ahead a) (none_before (is_within r) ahead h a) t);
 }
 
-pub searched_on : (r : Area) (told : ℕ → Bool) (at : ℕ) (next : Option ℕ) → IsSearched r told (Some at) → told at ≡ false → IsFirst (is_after r at) next → IsSearched r told next
-searched_on r told at next h f n = record {
+pub searched_on : (r : Area) (by_notes : ℕ → Bool) (at : ℕ) (next : Option ℕ) → IsSearched r by_notes (Some at) → by_notes at ≡ false → IsFirst (is_after r at) next → IsSearched r by_notes next
+searched_on r by_notes at next h f n = record {
   within = all_within r at next h.within n;
   none = λ a t. elim (or_cases (is_within r a && nat_lt a at) (at == a) (sym (one_more_before r at next h.within n a) ∙ t)) [
     | inl k ↦ h.none a k
-    | inr k ↦ subst (λ b. told b ≡ false) (eqb-true at a k) f
+    | inr k ↦ subst (λ b. by_notes b ≡ false) (eqb-true at a k) f
   ];
 }
 
-pub searched_found : (r : Area) (told : ℕ → Bool) (at : ℕ) → IsSearched r told (Some at) → told at ≡ true → IsFirst (λ a. is_within r a && told a) (Some at)
-searched_found r told at h t = record {
-  passes = and_from (is_within r at) (told at) h.within t;
-  least = λ a k. (let p = and_parts (is_within r a) (told a) k in elim (cases_lt a at) [
-    | inl l ↦ absurd (both_ways (told a) (h.none a (and_from (is_within r a) (nat_lt a at) p.0 (lt-ltb a at l))) p.1)
+pub searched_found : (r : Area) (by_notes : ℕ → Bool) (at : ℕ) → IsSearched r by_notes (Some at) → by_notes at ≡ true → IsFirst (λ a. is_within r a && by_notes a) (Some at)
+searched_found r by_notes at h t = record {
+  passes = and_from (is_within r at) (by_notes at) h.within t;
+  least = λ a k. (let p = and_parts (is_within r a) (by_notes a) k in elim (cases_lt a at) [
+    | inl l ↦ absurd (both_ways (by_notes a) (h.none a (and_from (is_within r a) (nat_lt a at) p.0 (lt-ltb a at l))) p.1)
     | inr l ↦ l
   ]);
 }
 
-pub searched_none : (r : Area) (told : ℕ → Bool) → IsSearched r told None → IsFirst (λ a. is_within r a && told a) None
-searched_none r told h = record {
+pub searched_none : (r : Area) (by_notes : ℕ → Bool) → IsSearched r by_notes None → IsFirst (λ a. is_within r a && by_notes a) None
+searched_none r by_notes h = record {
   passes = tt;
   least = λ a k.
-      let p = and_parts (is_within r a) (told a) k in
-      both_ways (told a) (h.none a (and_from (is_within r a) true p.0 refl)) p.1;
+      let p = and_parts (is_within r a) (by_notes a) k in
+      both_ways (by_notes a) (h.none a (and_from (is_within r a) true p.0 refl)) p.1;
 }

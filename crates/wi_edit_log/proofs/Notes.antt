@@ -1,5 +1,5 @@
 -- What is noted of cells that edits of narrow rectangles named: it tells of the first edits of a log, and finds what a search would.
-use Rattle.wi_edit_log.proofs.Words.{◌≡◌, ◌∙◌, ℕ, ◌-◌, Bool, ◌||◌, ◌&&◌, List, [], ◌∷◌, ◌++◌, length, take, drop, max, min, Option, ap, sym, subst, arith, and-or_distrib_left, length-append, length-take, length-take-le, take-append-le, Area, is_within_one, IsFirst, sooner, AreCounted, AreInRuns, is_named_by_others, is_wanted_of_others, AreNoted, IsKept, is_wanted_told, is_named_narrowly, is_named_widely, is_wanted_narrowly, is_wanted_widely, Edit, Last}
+use Rattle.wi_edit_log.proofs.Words.{◌≡◌, ◌∙◌, ℕ, ◌-◌, Bool, ◌||◌, ◌&&◌, List, [], ◌∷◌, ◌++◌, length, take, drop, max, min, Option, ap, sym, subst, arith, and-or_distrib_left, length-append, length-take, length-take-le, take-append-le, Area, is_within_one, IsFirst, sooner, AreCounted, AreInRuns, is_named_by_others, is_wanted_of_others, AreNoted, IsKept, is_wanted_noted_stale, is_named_narrowly, is_named_widely, is_wanted_narrowly, is_wanted_widely, Edit, Last}
 use Rattle.wi_edit_log.proofs.First.{same_first, sooner_first}
 use Rattle.wi_edit_log.proofs.Runs.{runs_of_fewer}
 use Rattle.wi_edit_log.proofs.Wide.{named_in_parts}
@@ -10,7 +10,7 @@ pub noted_before_more : (es : List Edit) (counts : List ℕ) (notes : List (ℕ 
 noted_before_more es counts notes x h =
     let same : take (length counts) (es ++ x ∷ []) ≡ take (length counts) es = take-append-le (length counts) es (x ∷ []) h.within in record {
       within = omega (arith, h.within, length-append es (x ∷ []));
-      told = λ a s since. ap (λ ys. is_named_narrowly (drop since ys) s a) same ∙ h.told a s since;
+      by_notes = λ a s since. ap (λ ys. is_named_narrowly (drop since ys) s a) same ∙ h.by_notes a s since;
       counted = subst (λ ys. AreCounted ys counts) (sym same) h.counted;
     }
 
@@ -26,17 +26,17 @@ kept_of_fewer es fs counts fewer left notes rest h e l f =
 -- ---- the first of wanted cells
 
 -- the searches are for what is noted, for what is wider among the edits that are, and for all after these
-pub first_in_parts : (es fs : List Edit) (counts : List ℕ) (notes : List (ℕ × Last)) (s from j k : ℕ) (wanted : List Area) (told wide left all : Option ℕ)
-    → AreNoted es counts notes → fs ≡ take (length counts) es → j ≡ min from (length fs) → k ≡ max from (length fs) → all ≡ sooner (sooner told wide) left
-    → IsFirst (is_wanted_told wanted notes s from) told → IsFirst (is_wanted_widely (drop j fs) s wanted) wide → IsFirst (is_wanted_of_others (drop k es) s wanted) left → IsFirst (is_wanted_of_others (drop from es) s wanted) all
-first_in_parts es fs counts notes s from j k wanted told wide left all h these low high e t w r =
+pub first_in_parts : (es fs : List Edit) (counts : List ℕ) (notes : List (ℕ × Last)) (s from j k : ℕ) (wanted : List Area) (by_notes wide left all : Option ℕ)
+    → AreNoted es counts notes → fs ≡ take (length counts) es → j ≡ min from (length fs) → k ≡ max from (length fs) → all ≡ sooner (sooner by_notes wide) left
+    → IsFirst (is_wanted_noted_stale wanted notes s from) by_notes → IsFirst (is_wanted_widely (drop j fs) s wanted) wide → IsFirst (is_wanted_of_others (drop k es) s wanted) left → IsFirst (is_wanted_of_others (drop from es) s wanted) all
+first_in_parts es fs counts notes s from j k wanted by_notes wide left all h these low high e t w r =
     let both : ℕ → Bool = λ a. is_within_one wanted a && (is_named_narrowly early s a || is_named_widely (drop j fs) s a) in
-    let narrow : IsFirst (is_wanted_narrowly early s wanted) told =
-    same_first (is_wanted_told wanted notes s from) (is_wanted_narrowly early s wanted) told (λ a. ap (λ b. is_within_one wanted a && b) (sym (h.told a s from))) t in
-    let soon : IsFirst both (sooner told wide) =
-    sooner_first (is_wanted_narrowly early s wanted) (is_wanted_widely (drop j fs) s wanted) both told wide
+    let narrow : IsFirst (is_wanted_narrowly early s wanted) by_notes =
+    same_first (is_wanted_noted_stale wanted notes s from) (is_wanted_narrowly early s wanted) by_notes (λ a. ap (λ b. is_within_one wanted a && b) (sym (h.by_notes a s from))) t in
+    let soon : IsFirst both (sooner by_notes wide) =
+    sooner_first (is_wanted_narrowly early s wanted) (is_wanted_widely (drop j fs) s wanted) both by_notes wide
     (λ a. and-or_distrib_left (is_within_one wanted a) (is_named_narrowly early s a) (is_named_widely (drop j fs) s a)) narrow w in
-    rw e (sooner_first both (is_wanted_of_others (drop k es) s wanted) (is_wanted_of_others (drop from es) s wanted) (sooner told wide) left
+    rw e (sooner_first both (is_wanted_of_others (drop k es) s wanted) (is_wanted_of_others (drop from es) s wanted) (sooner by_notes wide) left
     (λ a. parts a) soon r)
   where
     known : ℕ

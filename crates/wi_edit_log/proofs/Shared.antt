@@ -83,8 +83,8 @@ corner_shared r s row column a e f h =
 pub first_shared : (r s : Area) (row column at : ℕ) (shared : Bool) (found : Option ℕ) → row ≡ max (row_of r.first) (row_of s.first) → column ≡ max (column_of r.first) (column_of s.first)
     → at ≡ place row column → shared ≡ in_both r s at → found ≡ then_some shared at → IsFirst (in_both r s) found
 first_shared r s row column at shared found e f here is gives =
-    let told = gives ∙ ap (λ b. then_some b at) is ∙ ap (λ a. then_some (in_both r s a) a) here in
-    subst (IsFirst (in_both r s)) (sym told) (by (in_both r s (place row column)) refl)
+    let by_notes = gives ∙ ap (λ b. then_some b at) is ∙ ap (λ a. then_some (in_both r s a) a) here in
+    subst (IsFirst (in_both r s)) (sym by_notes) (by (in_both r s (place row column)) refl)
   where
     by : (b : Bool) → in_both r s (place row column) ≡ b → IsFirst (in_both r s) (then_some b (place row column))
     by true t = record { passes = t; least = λ a h. (corner_shared r s row column a e f h).0 }

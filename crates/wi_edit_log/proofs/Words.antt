@@ -17,7 +17,7 @@ pub use Rattle.wi_edit_log.specs.EditLog.{Entry, first_stale, is_stale}
 pub use Rattle.wi_edit_log.specs.Inner.Edits.{AreCounted, AreInRuns, IsCount, IsInRun, entries_in, entry_in, is_named_by_others, is_wanted_of_others}
 pub use Rattle.wi_edit_log.specs.Inner.First.{IsAtOrBefore, IsFirst, in_both, in_each, in_one, is_after}
 pub use Rattle.wi_edit_log.specs.Inner.Narrow.{are_narrow}
-pub use Rattle.wi_edit_log.specs.Inner.Noted.{AreNoted, IsKept, NotesMore, before_of, is_named_narrowly, is_named_widely, is_told, is_wanted_narrowly, is_wanted_told, is_wanted_widely, last_after, last_of, names_for, names_narrowly, names_widely}
+pub use Rattle.wi_edit_log.specs.Inner.Noted.{AreNoted, IsKept, NotesMore, before_of, is_named_narrowly, is_named_widely, is_noted_stale_of, is_wanted_narrowly, is_wanted_noted_stale, is_wanted_widely, last_after, last_of, names_for, names_narrowly, names_widely}
 pub use Rattle.wi_edit_log.specs.Inner.Rising.{are_rising, begins_from, rise_from}
 pub use Rattle.wi_edit_log.specs.declared.edit.Edit.{Edit}
 pub use Rattle.wi_edit_log.specs.declared.noted.Last.{Last}

@@ -4,7 +4,7 @@ ghost use Rattle.std.specs.Prelude.{◌≡◌, ◌==◌, ◌<◌, ◌≤◌, ◌
 ghost use Rattle.wi_values.specs.Address.{is_within, is_within_one};
 ghost use Rattle.wi_edit_log.specs.Inner.Edits.{AreCounted, AreInRuns, IsCount, is_wanted_of_others};
 ghost use Rattle.wi_edit_log.specs.Inner.First.{IsFirst};
-ghost use Rattle.wi_edit_log.specs.Inner.Noted.{AreNoted, NotesEdit, NotesMore, after_others, is_told_in, is_wanted_told, last_after, last_of, tells};
+ghost use Rattle.wi_edit_log.specs.Inner.Noted.{AreNoted, NotesEdit, NotesMore, after_others, is_noted_stale_in, is_wanted_noted_stale, last_after, last_of, is_noted_stale};
 ghost use Rattle.wi_edit_log.specs.declared.edit.Edit.{Edit};
 
 use crate::cells::{cell_after, first_cell};
@@ -107,8 +107,8 @@ impl Noted {
 
     /// Whether an edit of another session that isn't among the first `since` ones named the cell, as far as edits are noted.
     /// One look.
-    fn tells(&self, at: Address, session: u32, since: usize) -> bool
-        ensures { result ≡ tells (last_of self.now.notes.entries at) session since }
+    fn is_noted_stale(&self, at: Address, session: u32, since: usize) -> bool
+        ensures { result ≡ is_noted_stale (last_of self.now.notes.entries at) session since }
     {
         match self.notes.get(&at) {
             Some(last) => since < after_others(*last, session) as usize,
@@ -117,12 +117,12 @@ impl Noted {
     }
 
     /// The first cell of a rectangle of which that is so. One look for each cell.
-    fn first_told_in(&self, area: Rect, session: u32, since: usize) -> Option<Address>
-        ensures { IsFirst (is_told_in area self.now.notes.entries session since) result }
+    fn first_noted_stale_in(&self, area: Rect, session: u32, since: usize) -> Option<Address>
+        ensures { IsFirst (is_noted_stale_in area self.now.notes.entries session since) result }
     {
         let mut ahead = first_cell(area);
         while let Some(at) = ahead {
-            if self.tells(at, session, since) {
+            if self.is_noted_stale(at, session, since) {
                 return Some(at);
             }
             ahead = cell_after(area, at);
@@ -131,12 +131,13 @@ impl Noted {
     }
 
     /// The first of the wanted cells of which that is so.
-    fn first_told(&self, wanted: &[Rect], session: u32, since: usize) -> Option<Address>
-        ensures { IsFirst (is_wanted_told wanted.now self.now.notes.entries session since) result }
+    fn first_noted_stale(&self, wanted: &[Rect], session: u32, since: usize) -> Option<Address>
+        ensures { IsFirst (is_wanted_noted_stale wanted.now self.now.notes.entries session since)
+            result }
     {
         let mut first = None;
         for area in wanted {
-            first = sooner(first, self.first_told_in(*area, session, since));
+            first = sooner(first, self.first_noted_stale_in(*area, session, since));
         }
         first
     }
@@ -156,10 +157,10 @@ impl Noted {
         ensures { IsFirst (is_wanted_of_others (drop from edits.now) session wanted.now) result }
     {
         let noted = &edits[..self.narrow.len()];
-        let told = self.first_told(wanted, session, from);
+        let by_notes = self.first_noted_stale(wanted, session, from);
         let wide = first_of_wide(noted, &self.narrow, session, from.min(noted.len()), wanted);
         let left = first_of_others(edits, session, from.max(noted.len()), wanted);
-        sooner(sooner(told, wide), left)
+        sooner(sooner(by_notes, wide), left)
     }
 }
 

@@ -1,15 +1,15 @@
 -- What is so of a calculator that keeps values stays so over an edit.
-use Rattle.wi_propagate.proofs.Words.{◌≡◌, ◌==◌, ◌⊎◌, ◌≤◌, ◌+◌, ℕ, Bool, true, false, cond, nat_lt, nat_le, List, [], ◌∷◌, map, Option, Some, None, IfSome, Result, Ok, Err, refl, ap, sym, ◌∙◌, subst, arith, or_parts, keys_of, turn_test, Content, Constant, Formula, Sheet, content_of, with_content, Stored, edited, without_empty, change_without_empty, accepted, applied, Applies, StoreFault, Full, EditLimit, Memory, Counts, KeptValues, kept, value_for, is_one_of, SameOff, in_cone, Edges, AreEdgesOf, brought, edges_after, sheet_after, edges_follow, Generations, IsEdit, KeptSheet, generation_in, IsKeptFor, AreKeptRight, content_of-with, Value, Key, numbered, IsUnread, Box, Carried, kept_sheet, Stamps, told, AreKeptUp}
+use Rattle.wi_propagate.proofs.Words.{◌≡◌, ◌==◌, ◌⊎◌, ◌≤◌, ◌+◌, ℕ, Bool, true, false, cond, nat_lt, nat_le, List, [], ◌∷◌, map, Option, Some, None, IfSome, Result, Ok, Err, refl, ap, sym, ◌∙◌, subst, arith, or_parts, keys_of, turn_test, Content, Constant, Formula, Sheet, content_of, with_content, Stored, edited, without_empty, change_without_empty, accepted, applied, Applies, StoreFault, Full, EditLimit, Memory, Counts, KeptValues, kept, value_for, is_one_of, SameOff, in_cone, Edges, AreEdgesOf, brought, edges_after, sheet_after, edges_follow, Generations, IsEdit, KeptSheet, generation_in, IsKeptFor, AreKeptRight, content_of-with, Value, Key, numbered, IsUnread, Box, Carried, kept_sheet, Stamps, flushed, AreKeptUp}
 use Rattle.wi_propagate.proofs.RightValues.{AreRaised, kept_over_edit}
-use Rattle.wi_propagate.proofs.StampSteps.{told_after, told_same, kept_up_after, no_numbers, told_none}
+use Rattle.wi_propagate.proofs.StampSteps.{flushed_after, flushed_same, kept_up_after, no_numbers, flushed_none}
 
 -- ---- where nothing was edited, and nothing is kept
 
-pub begins_right : (s : Stored) (g : Stamps) (h : Box Carried) (n : Counts) (keep : ℕ) → g ≡ no_numbers → h.value.kept ≡ kept [] keep → 1 ≤ keep → AreKeptRight (kept_sheet s (told s.sheet g.edited_at) (Some h) n)
+pub begins_right : (s : Stored) (g : Stamps) (h : Box Carried) (n : Counts) (keep : ℕ) → g ≡ no_numbers → h.value.kept ≡ kept [] keep → 1 ≤ keep → AreKeptRight (kept_sheet s (flushed s.sheet g.edited_at) (Some h) n)
 begins_right s g h n keep e v one = record {
   space = subst (λ (x : KeptValues). 1 ≤ x.capacity) (sym v) one;
-  past = λ c. let z = told_none s.sheet g c e in omega (arith, z);
-  right = λ q. subst (λ (x : KeptValues). IfSome (value_for x.entries q) (IsKeptFor s.sheet s.edits (generation_in (told s.sheet g.edited_at)) q)) (sym v) tt;
+  past = λ c. let z = flushed_none s.sheet g c e in omega (arith, z);
+  right = λ q. subst (λ (x : KeptValues). IfSome (value_for x.entries q) (IsKeptFor s.sheet s.edits (generation_in (flushed s.sheet g.edited_at)) q)) (sym v) tt;
 }
 
 -- ---- the edges are those of the edited sheet
@@ -104,9 +104,9 @@ right_same s values g r counts e k = record {
     at (Some v) q h = record { past = h.past; right = λ m. h.right (m ∙ e q.cell) }
 
 -- also where room was made for numbers
-pub right_unnamed : (s : Stored) (first mid : Stamps) → ((c : ℕ) → generation_in mid.edited_at c ≡ generation_in first.edited_at c) → (values : KeptValues) (counts : Counts) → AreKeptRight (record { stored = s; values = values; generations = told s.sheet first.edited_at; counts = counts }) →
-    AreKeptRight (record { stored = s; values = values; generations = told s.sheet mid.edited_at; counts = counts })
-right_unnamed s first mid e values counts k = right_same s values (told s.sheet first.edited_at) (told s.sheet mid.edited_at) counts (told_same s.sheet first.edited_at mid.edited_at e) k
+pub right_unnamed : (s : Stored) (first mid : Stamps) → ((c : ℕ) → generation_in mid.edited_at c ≡ generation_in first.edited_at c) → (values : KeptValues) (counts : Counts) → AreKeptRight (record { stored = s; values = values; generations = flushed s.sheet first.edited_at; counts = counts }) →
+    AreKeptRight (record { stored = s; values = values; generations = flushed s.sheet mid.edited_at; counts = counts })
+right_unnamed s first mid e values counts k = right_same s values (flushed s.sheet first.edited_at) (flushed s.sheet mid.edited_at) counts (flushed_same s.sheet first.edited_at mid.edited_at e) k
 
 -- what an edit tells, and what it leaves dirty
 module _ (old new : Stored) (changes : List (ℕ × Option Content)) (first mid last : Stamps) (cells : List ℕ) (n : ℕ) (h : applied old changes ≡ Ok new) (are : cells ≡ keys_of changes) (number : n ≡ new.edits)
@@ -114,10 +114,10 @@ module _ (old new : Stored) (changes : List (ℕ × Option Content)) (first mid 
   numbers : (c : ℕ) → generation_in last.edited_at c ≡ numbered (keys_of changes) n (generation_in mid.edited_at) c
   numbers c = edited_at c ∙ ap (λ (xs : List ℕ). cond (is_one_of xs c) n (generation_in mid.edited_at c)) are
 
-  pub edit_told : (c : ℕ) → generation_in (told new.sheet last.edited_at) c ≡ cond (in_cone old.sheet (keys_of changes) c) n (generation_in (told old.sheet first.edited_at) c)
-  edit_told c =
-      told_after old.sheet new.sheet (keys_of changes) mid.edited_at last.edited_at n (same_off_applied old new changes h) below numbers c
-      ∙ ap (λ (m : ℕ). cond (in_cone old.sheet (keys_of changes) c) n m) (told_same old.sheet first.edited_at mid.edited_at space c)
+  pub edit_flushed : (c : ℕ) → generation_in (flushed new.sheet last.edited_at) c ≡ cond (in_cone old.sheet (keys_of changes) c) n (generation_in (flushed old.sheet first.edited_at) c)
+  edit_flushed c =
+      flushed_after old.sheet new.sheet (keys_of changes) mid.edited_at last.edited_at n (same_off_applied old new changes h) below numbers c
+      ∙ ap (λ (m : ℕ). cond (in_cone old.sheet (keys_of changes) c) n m) (flushed_same old.sheet first.edited_at mid.edited_at space c)
     where
       below : (d : ℕ) → generation_in mid.edited_at d ≤ n
       below d = let a = k.past d in let b = space d in let m = number_applied old new changes h in omega (arith, a, b, m, number)

@@ -2,12 +2,12 @@
 use Rattle.wi_propagate.proofs.Words.{◌≡◌, ◌==◌, ◌&&◌, ◌||◌, ◌⊎◌, inl, inr, not, ℕ, Bool, true, false, List, [], ◌∷◌, refl, ap, sym, ◌∙◌, subst, false≢true, or_left, Sheet, ReachTable, reaches, in_cone, Edges, AreEdgesOf, IsClosedUp, cone_has, cone_closed, same_reaches, is_itself, AreAllCones}
 
 -- where nothing is told
-pub none_told : (s : Sheet) (t : ReachTable) → t ≡ record { known = []; reached = [] } → AreAllCones s t
-none_told s t e = subst (AreAllCones s) (sym e) (record { so = λ c a h. absurd (false≢true h); all = λ c a h r. absurd (false≢true h) })
+pub none_recorded : (s : Sheet) (t : ReachTable) → t ≡ record { known = []; reached = [] } → AreAllCones s t
+none_recorded s t e = subst (AreAllCones s) (sym e) (record { so = λ c a h. absurd (false≢true h); all = λ c a h r. absurd (false≢true h) })
 
 -- where the sheets have the same edges
-pub cones_over : (es : Edges) (s t : Sheet) (told : ReachTable) → AreEdgesOf es s → AreEdgesOf es t → AreAllCones s told → AreAllCones t told
-cones_over es s t told a b h = record {
+pub cones_over : (es : Edges) (s t : Sheet) (flushed : ReachTable) → AreEdgesOf es s → AreEdgesOf es t → AreAllCones s flushed → AreAllCones t flushed
+cones_over es s t flushed a b h = record {
   so = λ c x k. sym (same c x) ∙ h.so c x k;
   all = λ c x k r. h.all c x k (same c x ∙ r);
 }

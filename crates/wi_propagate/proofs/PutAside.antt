@@ -1,7 +1,7 @@
 -- A value that is found in a question and takes no place in the list: it is put among those that were given up.
 use Rattle.wi_propagate.proofs.Words.{◌≡◌, ◌≤◌, ◌⊎◌, inl, ◌||◌, ℕ, Bool, true, false, cond, List, length, Option, Some, None, IfSome, is_some, Result, Ok, Err, OnOk, OnErr, refl, ap, sym, ◌∙◌, subst, arith, or_left, option_or, AllocError, Value, Replacement, Key, Entries, PutsIn, same_key, value_for, known_then, HasFound, generation_in, key_in, Keeping, keeping, state_in, value_in}
 use Rattle.wi_propagate.proofs.KeepSteps.{same_here}
-use Rattle.wi_propagate.proofs.RightValues.{told_in}
+use Rattle.wi_propagate.proofs.RightValues.{complete_in}
 use Rattle.wi_propagate.proofs.ValuesAtHand.{Remembers, keeps_nothing}
 
 found_in : (b : Bool) (v : Value) (x y : Option Value) → is_some (option_or x (cond b (Some v) y)) ≡ (is_some (option_or x y) || b)
@@ -34,7 +34,7 @@ module _ (q : Keeping) (es : Entries) (k : Key) (v : Value) (puts : PutsIn q.giv
       sheet = refl;
       same = record { covers = refl; generation = refl; capacity = refl; latest = refl };
       known = λ c w. known_in (value_for q.values.entries (under c w)) (value_for q.given_up (under c w)) (value_for es (under c w)) k (under c w) v (puts (under c w));
-      told = told_in aside;
+      complete = complete_in aside;
       places = λ ks d. omega arith;
       gives_up = record { space = omega arith; stays = λ r j i. i };
     };

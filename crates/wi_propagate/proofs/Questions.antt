@@ -1,5 +1,5 @@
 -- A question asked of a calculator that keeps values.
-use Rattle.wi_propagate.proofs.Words.{◌≡◌, ◌≤◌, ◌<◌, ◌+◌, ◌-◌, ◌^◌, inl, inr, length, All, filter, not, is_some, ℕ, Bool, true, false, List, [], Option, refl, ap, sym, ◌∙◌, subst, arith, keys_of, cases_lt, true≢false, Value, Fault, Circular, Replacement, Sheet, content_of, put_all, has_formula, Counts, Stored, Key, KeptValues, kept, value_for, IfSome, circular, clash, Case, reaching, asks_circular, table_entry, IsWhatIfSettled, IsClosed, SpentOn, left_is_unkept, sum_ones, never_fall-same, spent_unkept, cells_open, entry_circular, none_circular, MayBeRead, KeepsFound, WhereSpace, TakesNoMore, GivesUpWhenFull, NeedsNoEvaluation, IsValuedAnew, IsSameBeside, Saved, SpendsAtMost, what_if_more, rests_more, none_went, Generations, generation_in, KeptSheet, key_in, stands, is_kept, unkept, gone, IsAtHand, HasSpaceFor, KeepsAll, KeepsNoMore, KeepsOld, KeepsWhileSpace, emptied, AreRight, IsKeptFor, AreKeptRight, Box, Carried, kept_sheet, values_in, Keeping, keeping, begun, state_in, ArePlaced, IsKeepingRight, Owes, told, or_none, Some, None, IsSome, Stamps, stamped_in, Staging, AreEdgesOf, AreDirty, AreCarriedCones, AreKeptUp, AreAllCones, ArePlans}
+use Rattle.wi_propagate.proofs.Words.{◌≡◌, ◌≤◌, ◌<◌, ◌+◌, ◌-◌, ◌^◌, inl, inr, length, All, filter, not, is_some, ℕ, Bool, true, false, List, [], Option, refl, ap, sym, ◌∙◌, subst, arith, keys_of, cases_lt, true≢false, Value, Fault, Circular, Replacement, Sheet, content_of, put_all, has_formula, Counts, Stored, Key, KeptValues, kept, value_for, IfSome, circular, clash, Case, reaching, asks_circular, table_entry, IsWhatIfSettled, IsClosed, SpentOn, left_is_unkept, sum_ones, never_fall-same, spent_unkept, cells_open, entry_circular, none_circular, MayBeRead, KeepsFound, WhereSpace, TakesNoMore, GivesUpWhenFull, NeedsNoEvaluation, IsValuedAnew, IsSameBeside, Saved, SpendsAtMost, what_if_more, rests_more, none_went, Generations, generation_in, KeptSheet, key_in, stands, is_kept, unkept, gone, IsAtHand, HasSpaceFor, KeepsAll, KeepsNoMore, KeepsOld, KeepsWhileSpace, emptied, AreRight, IsKeptFor, AreKeptRight, Box, Carried, kept_sheet, values_in, Keeping, keeping, begun, state_in, ArePlaced, IsKeepingRight, Owes, flushed, or_none, Some, None, IsSome, Stamps, stamped_in, Staging, AreEdgesOf, AreDirty, AreCarriedCones, AreKeptUp, AreAllCones, ArePlans}
 use Rattle.wi_engine.specs.Inner.Saving as saving
 use Rattle.wi_propagate.specs.declared.plans.Plans.{Plans}
 use Rattle.wi_propagate.proofs.StampSteps.{flushed_up}
@@ -9,11 +9,11 @@ use Rattle.wi_propagate.proofs.PlaceCounts.{all_stand}
 
 -- where the numbers of edits are the same, so is the calculator
 module _ {s : Stored} {old new : Generations} (e : new ≡ old) (o : Option (Box Carried)) (n : Counts) where
-  pub flushed_view : (k : KeptSheet) → kept_sheet s (told s.sheet old) o n ≡ k → kept_sheet s (told s.sheet new) o n ≡ k
-  flushed_view k h = ap (λ (ns : Generations). kept_sheet s (told s.sheet ns) o n) e ∙ h
+  pub flushed_view : (k : KeptSheet) → kept_sheet s (flushed s.sheet old) o n ≡ k → kept_sheet s (flushed s.sheet new) o n ≡ k
+  flushed_view k h = ap (λ (ns : Generations). kept_sheet s (flushed s.sheet ns) o n) e ∙ h
 
-  pub settled_right : AreKeptRight (kept_sheet s (told s.sheet old) o n) → AreKeptRight (kept_sheet s (told s.sheet new) o n)
-  settled_right h = subst (λ (ns : Generations). AreKeptRight (kept_sheet s (told s.sheet ns) o n)) (sym e) h
+  pub settled_right : AreKeptRight (kept_sheet s (flushed s.sheet old) o n) → AreKeptRight (kept_sheet s (flushed s.sheet new) o n)
+  settled_right h = subst (λ (ns : Generations). AreKeptRight (kept_sheet s (flushed s.sheet ns) o n)) (sym e) h
 
 -- ---- how it begins
 
@@ -146,7 +146,7 @@ module _ {k : KeptSheet} {q : Keeping} (e : Begins k q) (last : Keeping) (values
 -- ---- what always holds of the calculator, by its parts
 
 abbrev pub AlwaysHolds : Option (Box Carried) → Staging → Stored → Stamps → Counts → Type 0
-AlwaysHolds o graph s g n = IsSome o × AreEdgesOf graph.now s.sheet × (graph.staged ≡ None) × AreKeptRight (kept_sheet s (told s.sheet g.edited_at) o n) × AreCarriedCones s.sheet o × AreKeptUp s.sheet s.edits g
+AlwaysHolds o graph s g n = IsSome o × AreEdgesOf graph.now s.sheet × (graph.staged ≡ None) × AreKeptRight (kept_sheet s (flushed s.sheet g.edited_at) o n) × AreCarriedCones s.sheet o × AreKeptUp s.sheet s.edits g
 
 -- once what is dirty is flushed
 pub holds_settled : (o : Option (Box Carried)) (graph : Staging) (s : Stored) (old new : Stamps) (n : Counts) → new.edited_at ≡ old.edited_at → AreDirty s.sheet (generation_in new.edited_at) new.dirty (stamped_in new.edited_at new.valid_since) →
@@ -154,13 +154,13 @@ pub holds_settled : (o : Option (Box Carried)) (graph : Staging) (s : Stored) (o
 holds_settled o graph s old new n e dirty h = (h.0, h.1, h.2, settled_right {s = s} e o n h.3, h.4, flushed_up s.sheet s.edits old new e dirty h.5)
 
 -- and once a question is answered
-pub holds_asked : (o : Option (Box Carried)) (graph : Staging) (s : Stored) (g : Stamps) (n counts : Counts) (q last : Keeping) (b : Box Carried) → Begins (kept_sheet s (told s.sheet g.edited_at) o n) q →
+pub holds_asked : (o : Option (Box Carried)) (graph : Staging) (s : Stored) (g : Stamps) (n counts : Counts) (q last : Keeping) (b : Box Carried) → Begins (kept_sheet s (flushed s.sheet g.edited_at) o n) q →
     IsSameBeside (state_in q) (state_in last) → b.value.kept ≡ last.values → last.sheet ≡ s.sheet → IsKeepingRight last → AreAllCones last.sheet b.value.cones → AlwaysHolds o graph s g n → AlwaysHolds (Some b) graph s g counts
 holds_asked o graph s g n counts q last b e beside same sheet right cones h = (refl, h.1, h.2, right_then e last b.value.kept counts beside same sheet h.3 right, subst (λ (x : Sheet). AreAllCones x b.value.cones) sheet cones, h.5)
 
 -- its plans too
 abbrev pub AlwaysPlans : Option (Box Carried) → Staging → Stored → Stamps → Counts → Plans → Type 0
-AlwaysPlans o graph s g n ps = IsSome o × AreEdgesOf graph.now s.sheet × (graph.staged ≡ None) × AreKeptRight (kept_sheet s (told s.sheet g.edited_at) o n) × AreCarriedCones s.sheet o × AreKeptUp s.sheet s.edits g × ArePlans s.sheet ps
+AlwaysPlans o graph s g n ps = IsSome o × AreEdgesOf graph.now s.sheet × (graph.staged ≡ None) × AreKeptRight (kept_sheet s (flushed s.sheet g.edited_at) o n) × AreCarriedCones s.sheet o × AreKeptUp s.sheet s.edits g × ArePlans s.sheet ps
 
 pub with_plans : (o : Option (Box Carried)) (graph : Staging) (s : Stored) (g : Stamps) (n : Counts) (ps : Plans) → AlwaysHolds o graph s g n → ArePlans s.sheet ps → AlwaysPlans o graph s g n ps
 with_plans o graph s g n ps h k = (h.0, h.1, h.2, h.3, h.4, h.5, k)
@@ -175,7 +175,7 @@ module _ (o p : Option (Box Carried)) (none : values_in p ≡ kept [] (values_in
   emptied_view gs = λ i. record { stored = s; generations = gs; values = none i; counts = n }
 
   pub holds_emptied : (graph : Staging) (g : Stamps) → (IsSome o → IsSome p) → AreCarriedCones s.sheet p → AlwaysHolds o graph s g n → AlwaysHolds p graph s g n
-  holds_emptied graph g there cones h = (there h.0, h.1, h.2, right (told s.sheet g.edited_at) h.3, cones, h.5)
+  holds_emptied graph g there cones h = (there h.0, h.1, h.2, right (flushed s.sheet g.edited_at) h.3, cones, h.5)
     where
       right : (gs : Generations) → AreKeptRight (kept_sheet s gs o n) → AreKeptRight (kept_sheet s gs p n)
       right gs k = record {

@@ -1,5 +1,5 @@
 -- Values that are kept are right: over an edit, where one is found, and where a question begins.
-use Rattle.wi_propagate.proofs.Words.{◌≡◌, ◌≤◌, ◌<◌, ◌+◌, ◌||◌, ℕ, Bool, true, false, List, [], Option, Some, None, IfSome, is_some, refl, sym, ◌∙◌, subst, arith, true≢false, option_or, Value, Replacement, Sheet, put_all, Key, Entries, KeptValues, value_for, circular, cell_value, IsInCone, SameOff, in_cone, IsRight, IsKeptFor, AreRight, IsMemoOf, IsTold, Generations, generation_in, key_in, Keeping, keeping, state_in, IsKeepingRight, same_for_reached, outside_circular, outside_reaches, outside_value, reaches_true, true_reaches, true_in_cone, or_none}
+use Rattle.wi_propagate.proofs.Words.{◌≡◌, ◌≤◌, ◌<◌, ◌+◌, ◌||◌, ℕ, Bool, true, false, List, [], Option, Some, None, IfSome, is_some, refl, sym, ◌∙◌, subst, arith, true≢false, option_or, Value, Replacement, Sheet, put_all, Key, Entries, KeptValues, value_for, circular, cell_value, IsInCone, SameOff, in_cone, IsRight, IsKeptFor, AreRight, IsMemoOf, IsComplete, Generations, generation_in, key_in, Keeping, keeping, state_in, IsKeepingRight, same_for_reached, outside_circular, outside_reaches, outside_value, reaches_true, true_reaches, true_in_cone, or_none}
 
 -- a value found under the replacements that reach its cell
 pub made_right : (s : Sheet) (c : ℕ) (w : List Replacement) (v : Value) → circular s c ≡ false → v ≡ cell_value (put_all s w) c → IsRight s c w v
@@ -46,8 +46,8 @@ found_is_kept s edits generation k v past o g e = record {
 
 -- ---- a question begins
 
-pub told_in : (q : Keeping) → IsTold (state_in q)
-told_in q c w = at (value_for q.values.entries (key_in q.generations c w)) (value_for q.given_up (key_in q.generations c w))
+pub complete_in : (q : Keeping) → IsComplete (state_in q)
+complete_in q c w = at (value_for q.values.entries (key_in q.generations c w)) (value_for q.given_up (key_in q.generations c w))
   where
     at : (o p : Option Value) → is_some (option_or o p) ≡ (is_some (option_or o p) || is_some o)
     at None None = refl
@@ -63,5 +63,5 @@ begun_is_memo s n gs es k e h = subst (λ (x : Entries). IsMemoOf s (state_in (k
   sheet = refl;
   right = λ c w. subst (λ (o : Option Value). IfSome o (λ v. v ≡ cell_value (put_all s w) c)) (sym (or_none (value_for k.entries (key_in gs c w)))) (known_right s n (generation_in gs) c w (value_for k.entries (key_in gs c w)) (h.right (key_in gs c w)));
   closed = λ c d i r f. refl;
-  told = told_in (keeping s n gs [] k);
+  complete = complete_in (keeping s n gs [] k);
 })

@@ -1,5 +1,5 @@
 -- Generations that the numbers of edits tell, and that are stamped late.
-use Rattle.wi_propagate.proofs.Words.{◌≡◌, ◌==◌, ◌||◌, ◌⊎◌, inl, inr, ◌≤◌, ◌+◌, ◌++◌, max, ℕ, zero, suc, Bool, true, false, cond, List, [], ◌∷◌, map, Option, Some, None, IsSome, refl, ap, sym, ◌∙◌, subst, arith, or_cases, or_left, or_right, or_parts, false_from_ne_true, unwrap_or, nat_cmp, keys_of, lookup, is_at, is_at-eq, turn_test, Sheet, content_of, cells_with_formula, Walks, Reaches, is_one_of, SameOff, in_cone, numbered, IsLatest, IsDirty, AreDirty, IsUnread, latest_among, clash, same_cell, formula_cell, reader_formula, in_front, in_back, latest_of_cone, one_is_latest, latest_is_among, edit_owes, none_is_dirty, Generations, generation_in, HasGeneration, Stamps, stamped_in, told, AreAllStamped, AreKeptUp}
+use Rattle.wi_propagate.proofs.Words.{◌≡◌, ◌==◌, ◌||◌, ◌⊎◌, inl, inr, ◌≤◌, ◌+◌, ◌++◌, max, ℕ, zero, suc, Bool, true, false, cond, List, [], ◌∷◌, map, Option, Some, None, IsSome, refl, ap, sym, ◌∙◌, subst, arith, or_cases, or_left, or_right, or_parts, false_from_ne_true, unwrap_or, nat_cmp, keys_of, lookup, is_at, is_at-eq, turn_test, Sheet, content_of, cells_with_formula, Walks, Reaches, is_one_of, SameOff, in_cone, numbered, IsLatest, IsDirty, AreDirty, IsUnread, latest_among, clash, same_cell, formula_cell, reader_formula, in_front, in_back, latest_of_cone, one_is_latest, latest_is_among, edit_owes, none_is_dirty, Generations, generation_in, HasGeneration, Stamps, stamped_in, flushed, AreAllStamped, AreKeptUp}
 
 -- ---- what is told
 
@@ -37,17 +37,17 @@ none_reached s ns c h = at (latest_is_among s (generation_in ns) (keys_of ns) c 
     at (inl z) = z
     at (inr x) = sym x.2 ∙ ap (generation_in ns) (sym (alone x.1.0 x.0 x.1.1)) ∙ zero_here
 
-pub told_is : (s : Sheet) (ns : Generations) (c : ℕ) → generation_in (told s ns) c ≡ latest_among s (generation_in ns) (keys_of ns) c
-unfolding told
-told_is s ns c = ap (λ (o : Option ℕ). unwrap_or o 0) (looked_up (latest_among s (generation_in ns) (keys_of ns)) (keys_of ns ++ cells_with_formula s) c) ∙ at (is_one_of (keys_of ns ++ cells_with_formula s) c) refl
+pub flushed_is : (s : Sheet) (ns : Generations) (c : ℕ) → generation_in (flushed s ns) c ≡ latest_among s (generation_in ns) (keys_of ns) c
+unfolding flushed
+flushed_is s ns c = ap (λ (o : Option ℕ). unwrap_or o 0) (looked_up (latest_among s (generation_in ns) (keys_of ns)) (keys_of ns ++ cells_with_formula s) c) ∙ at (is_one_of (keys_of ns ++ cells_with_formula s) c) refl
   where
     at : (b : Bool) → is_one_of (keys_of ns ++ cells_with_formula s) c ≡ b → unwrap_or (cond b (Some (latest_among s (generation_in ns) (keys_of ns) c)) None) 0 ≡ latest_among s (generation_in ns) (keys_of ns) c
     at true e = refl
     at false e = sym (none_reached s ns c e)
 
 -- it is the latest
-pub told_latest : (s : Sheet) (ns : Generations) (c : ℕ) → IsLatest s (generation_in ns) c (generation_in (told s ns) c)
-told_latest s ns c = subst (IsLatest s (generation_in ns) c) (sym (told_is s ns c)) (latest_is_among s (generation_in ns) (keys_of ns) c (unnamed ns))
+pub flushed_latest : (s : Sheet) (ns : Generations) (c : ℕ) → IsLatest s (generation_in ns) c (generation_in (flushed s ns) c)
+flushed_latest s ns c = subst (IsLatest s (generation_in ns) c) (sym (flushed_is s ns c)) (latest_is_among s (generation_in ns) (keys_of ns) c (unnamed ns))
 
 same_numbers : (s : Sheet) (f g : ℕ → ℕ) (c n : ℕ) → ((d : ℕ) → f d ≡ g d) → IsLatest s f c n → IsLatest s g c n
 same_numbers s f g c n e l = record { most = λ d w. subst (λ (m : ℕ). m ≤ n) (e d) (l.most d w); reached = at l.reached }
@@ -57,29 +57,29 @@ same_numbers s f g c n e l = record { most = λ d w. subst (λ (m : ℕ). m ≤ 
     at (inr x) = inr (x.0, x.1, sym (e x.0) ∙ x.2)
 
 -- room for numbers tells nothing new
-pub told_same : (s : Sheet) (old new : Generations) → ((c : ℕ) → generation_in new c ≡ generation_in old c) → (c : ℕ) → generation_in (told s new) c ≡ generation_in (told s old) c
-told_same s old new e c = one_is_latest s (generation_in old) c _ _ (same_numbers s (generation_in new) (generation_in old) c _ e (told_latest s new c)) (told_latest s old c)
+pub flushed_same : (s : Sheet) (old new : Generations) → ((c : ℕ) → generation_in new c ≡ generation_in old c) → (c : ℕ) → generation_in (flushed s new) c ≡ generation_in (flushed s old) c
+flushed_same s old new e c = one_is_latest s (generation_in old) c _ _ (same_numbers s (generation_in new) (generation_in old) c _ e (flushed_latest s new c)) (flushed_latest s old c)
 
 -- an edit is told of its cone
-pub told_after : (s t : Sheet) (xs : List ℕ) (old new : Generations) (k : ℕ) → SameOff s t xs → ((d : ℕ) → generation_in old d ≤ k) → ((c : ℕ) → generation_in new c ≡ numbered xs k (generation_in old) c) →
-    (c : ℕ) → generation_in (told t new) c ≡ cond (in_cone s xs c) k (generation_in (told s old) c)
-told_after s t xs old new k same l e c = at (in_cone s xs c) refl
+pub flushed_after : (s t : Sheet) (xs : List ℕ) (old new : Generations) (k : ℕ) → SameOff s t xs → ((d : ℕ) → generation_in old d ≤ k) → ((c : ℕ) → generation_in new c ≡ numbered xs k (generation_in old) c) →
+    (c : ℕ) → generation_in (flushed t new) c ≡ cond (in_cone s xs c) k (generation_in (flushed s old) c)
+flushed_after s t xs old new k same l e c = at (in_cone s xs c) refl
   where
     laws : (in_cone s xs c ≡ true → IsLatest t (numbered xs k (generation_in old)) c k) × (in_cone s xs c ≡ false → (n : ℕ) → IsLatest s (generation_in old) c n → IsLatest t (numbered xs k (generation_in old)) c n)
     laws = latest_of_cone s t xs (generation_in old) k c same l
 
-    now : IsLatest t (numbered xs k (generation_in old)) c (generation_in (told t new) c)
-    now = same_numbers t (generation_in new) (numbered xs k (generation_in old)) c _ e (told_latest t new c)
+    now : IsLatest t (numbered xs k (generation_in old)) c (generation_in (flushed t new) c)
+    now = same_numbers t (generation_in new) (numbered xs k (generation_in old)) c _ e (flushed_latest t new c)
 
-    at : (b : Bool) → in_cone s xs c ≡ b → generation_in (told t new) c ≡ cond b k (generation_in (told s old) c)
+    at : (b : Bool) → in_cone s xs c ≡ b → generation_in (flushed t new) c ≡ cond b k (generation_in (flushed s old) c)
     at true i = one_is_latest t (numbered xs k (generation_in old)) c _ _ now (laws.0 i)
-    at false i = one_is_latest t (numbered xs k (generation_in old)) c _ _ now (laws.1 i _ (told_latest s old c))
+    at false i = one_is_latest t (numbered xs k (generation_in old)) c _ _ now (laws.1 i _ (flushed_latest s old c))
 
 -- ---- what is stamped late
 
 -- where none is dirty, what a cell is stamped with is its generation
-pub stamped_is_flushed : (s : Sheet) (edits : ℕ) (g : Stamps) → AreKeptUp s edits g → g.dirty ≡ [] → (c : ℕ) → stamped_in g.edited_at g.valid_since c ≡ generation_in (told s g.edited_at) c
-stamped_is_flushed s edits g k e c = none_is_dirty s (generation_in g.edited_at) (stamped_in g.edited_at g.valid_since) g.dirty c _ (λ x. ap (λ (xs : List ℕ). is_one_of xs x) e) k.dirty (told_latest s g.edited_at c)
+pub stamped_is_flushed : (s : Sheet) (edits : ℕ) (g : Stamps) → AreKeptUp s edits g → g.dirty ≡ [] → (c : ℕ) → stamped_in g.edited_at g.valid_since c ≡ generation_in (flushed s g.edited_at) c
+stamped_is_flushed s edits g k e c = none_is_dirty s (generation_in g.edited_at) (stamped_in g.edited_at g.valid_since) g.dirty c _ (λ x. ap (λ (xs : List ℕ). is_one_of xs x) e) k.dirty (flushed_latest s g.edited_at c)
 
 -- over an edit
 pub kept_up_after : (s t : Sheet) (xs : List ℕ) (old mid new : Stamps) (edits n : ℕ) → SameOff s t xs → n ≡ edits + 1 →
@@ -87,7 +87,7 @@ pub kept_up_after : (s t : Sheet) (xs : List ℕ) (old mid new : Stamps) (edits 
     ((c : ℕ) → generation_in new.edited_at c ≡ numbered xs n (generation_in mid.edited_at) c) → new.valid_since ≡ mid.valid_since → new.dirty ≡ mid.dirty → AreKeptUp s edits old → AreKeptUp t n new
 kept_up_after s t xs old mid new edits n same e edited_at valid_since stays dirty renamed again still k = record {
   past = λ c. past c (is_one_of xs c) (numbers c);
-  dirty = λ c m l. after c m (edit_owes s t xs old.dirty mid.dirty (generation_in old.edited_at) (stamped_in old.edited_at old.valid_since) n same below dirty stays (λ d. (generation_in (told s old.edited_at) d, told_latest s old.edited_at d)) k.dirty c m (same_numbers t (generation_in new.edited_at) (numbered xs n (generation_in old.edited_at)) c m numbers l));
+  dirty = λ c m l. after c m (edit_owes s t xs old.dirty mid.dirty (generation_in old.edited_at) (stamped_in old.edited_at old.valid_since) n same below dirty stays (λ d. (generation_in (flushed s old.edited_at) d, flushed_latest s old.edited_at d)) k.dirty c m (same_numbers t (generation_in new.edited_at) (numbered xs n (generation_in old.edited_at)) c m numbers l));
 }
   where
     numbers : (c : ℕ) → generation_in new.edited_at c ≡ numbered xs n (generation_in old.edited_at) c
@@ -102,9 +102,9 @@ kept_up_after s t xs old mid new edits n same e edited_at valid_since stays dirt
 
     stamped_below : (c : ℕ) → generation_in old.valid_since c ≤ n
     stamped_below c =
-        let l = told_latest s old.edited_at c in
+        let l = flushed_latest s old.edited_at c in
         let o = (k.dirty c _ l).no_later in
-        at (generation_in (told s old.edited_at) c) o l.reached
+        at (generation_in (flushed s old.edited_at) c) o l.reached
       where
         at : (m : ℕ) → stamped_in old.edited_at old.valid_since c ≤ m → (m ≡ 0) ⊎ ((d : ℕ) × Reaches s c d × (generation_in old.edited_at d ≡ m)) → generation_in old.valid_since c ≤ n
         at m o (inl z) = omega (arith, o, z)
@@ -174,8 +174,8 @@ there_key (e ∷ es) c h = at (is_at (nat_cmp c) e.0) (is_at-eq c e.0) (or_cases
 abbrev pub no_numbers : Stamps
 no_numbers = record { edited_at = []; valid_since = []; dirty = [] }
 
-pub told_none : (s : Sheet) (g : Stamps) (c : ℕ) → g ≡ no_numbers → generation_in (told s g.edited_at) c ≡ 0
-told_none s g c e = ap (λ (x : Stamps). generation_in (told s x.edited_at) c) e ∙ told_is s [] c
+pub flushed_none : (s : Sheet) (g : Stamps) (c : ℕ) → g ≡ no_numbers → generation_in (flushed s g.edited_at) c ≡ 0
+flushed_none s g c e = ap (λ (x : Stamps). generation_in (flushed s x.edited_at) c) e ∙ flushed_is s [] c
 
 pub none_kept_up : (s : Sheet) (n : ℕ) (g : Stamps) → g ≡ no_numbers → AreKeptUp s n g
 none_kept_up s n g e = subst (AreKeptUp s n) (sym e) (record {

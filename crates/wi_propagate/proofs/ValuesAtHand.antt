@@ -2,7 +2,7 @@
 use Rattle.wi_propagate.proofs.Words.{◌≡◌, ◌≤◌, ◌-◌, ◌⊎◌, inl, inr, ◌||◌, ℕ, Bool, true, false, cond, nat_lt, List, [], ◌∷◌, length, Option, Some, None, IfSome, IsSome, is_some, refl, ap, sym, ◌∙◌, subst, arith, if◌then◌else◌, nat_tests, lookup_from_place, slice_get_cases, update, option_or, Value, Replacement, Key, Entries, KeptValues, HasOneEach, PutsIn, going, same_key, value_for, last_entry, same_key_means, same_key_equiv, same_case, known_still, known_then, Keeps, Generations, generation_in, key_in, Keeping, TakesOver, state_in, value_in, put_all, circular, cell_value, HasFound, AreRight, Carried, IsKeepingRight, keeping, Sheet}
 use Rattle.wi_propagate.proofs.KeepSteps.{KeepsIn, put_is_some, right_after, kept_after, there_after, space_after, gives_up_after}
 use Rattle.wi_propagate.proofs.PlaceCounts.{one_place_after}
-use Rattle.wi_propagate.proofs.RightValues.{told_in, found_is_kept}
+use Rattle.wi_propagate.proofs.RightValues.{complete_in, found_is_kept}
 
 -- ---- the entry that goes for a new value
 
@@ -122,7 +122,7 @@ keeps_nothing q r k v e = subst (λ (x : Keeping). Remembers q x k v) (sym e) (r
     sheet = refl;
     same = record { covers = refl; generation = refl; capacity = refl; latest = refl };
     known = λ c w. known_still (value_in q (key_in q.generations c w)) (value_in q (key_in q.generations c w)) k (key_in q.generations c w) v refl;
-    told = told_in q;
+    complete = complete_in q;
     places = λ ks d. omega arith;
     gives_up = record { space = omega arith; stays = λ r j i. i };
   };
@@ -160,7 +160,7 @@ module _ (s : Sheet) (edits : ℕ) (g : Generations) (carried was : Carried) (q 
               sheet = refl;
               same = record { covers = refl; generation = refl; capacity = h.capacity; latest = refl };
               known = known_after es fs m n k v one_each takes g h;
-              told = told_in (keeping s edits g fs n);
+              complete = complete_in (keeping s edits g fs n);
               places = one_place_after s edits g es fs m n k v h;
               gives_up = gives_up_after s edits g es fs m n k v h;
             };

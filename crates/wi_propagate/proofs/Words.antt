@@ -32,7 +32,7 @@ pub use Rattle.wi_engine.proofs.Ledger.{spends_at_most, spends_err, spends_then,
 pub use Rattle.wi_engine.proofs.Places.{known_still, known_then, none_went}
 pub use Rattle.wi_engine.specs.Inner.Frames.{MayBeRead}
 pub use Rattle.wi_engine.specs.Inner.Keeps.{HasFound, Keeps}
-pub use Rattle.wi_engine.specs.Inner.MemoState.{IsMemoOf, IsTold, MemoState}
+pub use Rattle.wi_engine.specs.Inner.MemoState.{IsMemoOf, IsComplete, MemoState}
 pub use Rattle.wi_engine.specs.Inner.Remembered.{OneQuestion, question_state, remembered}
 pub use Rattle.wi_engine.specs.Inner.Saving.{GivesUpWhenFull, IsValuedAnew, KeepsFound, NeedsNoEvaluation, TakesNoMore, TakesPlaces, WhereSpace}
 pub use Rattle.wi_engine.specs.Inner.Plans.{IsUnkept, IsWholePlan}
@@ -62,7 +62,7 @@ pub use Rattle.wi_parser.specs.declared.content.Content.TheVariants.{Constant, F
 pub use Rattle.wi_propagate.specs.Inner.Cones.{AreAllCones}
 pub use Rattle.wi_propagate.specs.Inner.Keeping.{AreCarriedCones, ArePlaced, HasGeneration, IsKeepingRight, Keeping, TakesOver, begun, keeping, kept_sheet, state_in, value_in, values_in}
 pub use Rattle.wi_propagate.specs.Inner.Stamps.{AreAllStamped, AreKeptUp, Stamps, stamped_in}
-unfoldable pub use Rattle.wi_propagate.specs.Inner.Stamps.{told}
+unfoldable pub use Rattle.wi_propagate.specs.Inner.Stamps.{flushed}
 pub use Rattle.wi_propagate.specs.Inner.Planned.{ArePlans}
 pub use Rattle.wi_propagate.specs.Inner.Owes.{Owes}
 pub use Rattle.wi_propagate.specs.Inner.Flushing.{second_cells}

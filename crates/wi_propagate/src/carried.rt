@@ -28,7 +28,7 @@ pub struct Carried {
 
 impl Carried {
     /// Nothing yet, and room for so many kept values. Memory for them is taken as they come.
-    #[tactic(auto, using(crate::proofs::KeptCones::none_told))]
+    #[tactic(auto, using(crate::proofs::KeptCones::none_recorded))]
     pub(crate) fn new(alloc: Global, keep: usize) -> Result<Box<Carried>, AllocError>
         requires { 1 ≤ keep }
         ensures values { IfOk result (λ h. h.value.kept ≡ kept [] keep) }
@@ -45,7 +45,7 @@ impl Carried {
     }
 
     /// Nothing any more, and room for as many kept values as before. Takes no memory.
-    #[tactic(auto, using(crate::proofs::KeptCones::none_told))]
+    #[tactic(auto, using(crate::proofs::KeptCones::none_recorded))]
     fn forget(&mut self, alloc: Global)
         ensures values { self.new.kept ≡ kept [] self.old.kept.capacity }
         ensures cones { (s : Sheet) → AreAllCones s self.new.cones }

@@ -18,7 +18,7 @@ const MOST_CONES: usize = 64;
 
 /// Lets the cones go where they are more than a question takes over, if questions have had at most so many replaced cells. Takes no
 /// memory.
-#[tactic(auto, using(crate::proofs::KeptCones::none_told))]
+#[tactic(auto, using(crate::proofs::KeptCones::none_recorded))]
 pub(crate) fn keep_if_few(alloc: Global, widest: usize, cones: &mut Reaches)
     ensures { (s : Sheet) → AreAllCones s cones.old → AreAllCones s cones.new }
 {

@@ -7,7 +7,7 @@ ghost use Rattle.wi_cache.specs.declared.key.Key.{Key as Keys};
 ghost use Rattle.wi_engine.specs.Inner.MemoState.{IsMemoOf};
 ghost use Rattle.wi_propagate.specs.Inner.Cones.{AreAllCones};
 ghost use Rattle.wi_propagate.specs.Inner.Keeping.{keeping, state_in, ArePlaced, IsKeepingRight, TakesOver};
-ghost use Rattle.wi_propagate.specs.Inner.Stamps.{told, AreAllStamped};
+ghost use Rattle.wi_propagate.specs.Inner.Stamps.{flushed, AreAllStamped};
 
 use crate::carried::Carried;
 use crate::cones::add_cones;
@@ -54,17 +54,17 @@ impl<'a> Model for Keeping<'a> {
     ghost use Rattle.wi_graph.specs.Edges.{AreEdgesOf};
     ghost use Rattle.wi_propagate.specs.Inner.Cones.{AreAllCones};
     ghost use Rattle.wi_propagate.specs.Inner.Keeping.{keeping, IsKeepingRight};
-    ghost use Rattle.wi_propagate.specs.Inner.Stamps.{told, AreAllStamped};
+    ghost use Rattle.wi_propagate.specs.Inner.Stamps.{flushed, AreAllStamped};
 
     ghost view = { λ m. keeping m.store.now.sheet m.store.now.edits
-        (told m.store.now.sheet m.generations.now.edited_at) m.carried.value.given_up.entries
+        (flushed m.store.now.sheet m.generations.now.edited_at) m.carried.value.given_up.entries
         m.carried.value.kept };
 
     ghost invariant = { λ m. AreEdgesOf m.graph.now.now m.store.now.sheet
         × (m.graph.now.staged ≡ None)
         × AreAllCones m.store.now.sheet m.carried.value.cones
         × IsKeepingRight (keeping m.store.now.sheet m.store.now.edits
-        (told m.store.now.sheet m.generations.now.edited_at) m.carried.value.given_up.entries
+        (flushed m.store.now.sheet m.generations.now.edited_at) m.carried.value.given_up.entries
         m.carried.value.kept)
         × AreAllStamped m.store.now.sheet m.store.now.edits m.generations.now };
 }
@@ -85,11 +85,11 @@ impl<'a> Keeping<'a> {
         requires cones { AreAllCones store.now.sheet carried.value.cones }
         requires right { IsKeepingRight
             (keeping store.now.sheet store.now.edits
-            (told store.now.sheet generations.now.edited_at) [] carried.value.kept) }
+            (flushed store.now.sheet generations.now.edited_at) [] carried.value.kept) }
         requires valid_since { AreAllStamped store.now.sheet store.now.edits generations.now }
         ensures value { result
             ≡ keeping store.now.sheet store.now.edits
-            (told store.now.sheet generations.now.edited_at) [] carried.value.kept }
+            (flushed store.now.sheet generations.now.edited_at) [] carried.value.kept }
         ensures memo { IsMemoOf store.now.sheet (state_in result) }
         ensures placed { ArePlaced carried.value.kept }
     {

@@ -77,17 +77,17 @@ impl Model for KeptCalculator {
     ghost use Rattle.wi_graph.specs.Edges.{AreEdgesOf};
     ghost use Rattle.wi_propagate.specs.Right.{AreKeptRight};
     ghost use Rattle.wi_propagate.specs.Inner.Keeping.{kept_sheet, AreCarriedCones};
-    ghost use Rattle.wi_propagate.specs.Inner.Stamps.{told, AreKeptUp};
+    ghost use Rattle.wi_propagate.specs.Inner.Stamps.{flushed, AreKeptUp};
     ghost use Rattle.wi_propagate.specs.Inner.Planned.{ArePlans};
 
     ghost view = { λ k. kept_sheet k.store
-        (told k.store.sheet k.generations.edited_at) k.carried k.meter };
+        (flushed k.store.sheet k.generations.edited_at) k.carried k.meter };
 
     ghost invariant = { λ k. IsSome k.carried
         × AreEdgesOf k.graph.now k.store.sheet
         × (k.graph.staged ≡ None)
         × AreKeptRight (kept_sheet k.store
-        (told k.store.sheet k.generations.edited_at) k.carried k.meter)
+        (flushed k.store.sheet k.generations.edited_at) k.carried k.meter)
         × AreCarriedCones k.store.sheet k.carried
         × AreKeptUp k.store.sheet k.store.edits k.generations
         × ArePlans k.store.sheet k.plans };

@@ -31,5 +31,5 @@ pub use Rattle.wi_values.specs.declared.value.Value.{Value}
 unfoldable pub use Rattle.wi_worlds.specs.Inner.Compared.{digest_of}
 pub use Rattle.wi_worlds.specs.Inner.Picked.{and_then, picked, replacement_at}
 pub use Rattle.wi_values.specs.Address.{is_one_of}
-pub use Rattle.wi_worlds.specs.Reached.{AddsOf, ReachTable, Told, is_of, is_reached_by, reached_by, reached_cells, tells, told_cells}
+pub use Rattle.wi_worlds.specs.Reached.{AddsOf, ReachTable, Recorded, is_of, is_reached_by, reached_by, reached_cells, has_recorded, recorded_cells}
 pub use Rattle.wi_worlds.specs.Reaching.{cone_has, is_reached}

@@ -4,8 +4,8 @@ ghost use Rattle.std.specs.Prelude.{◌≡◌, ◌↔◌, ◌==◌, ◌&&◌, �
 ghost use Rattle.std.specs.List.{list_all};
 ghost use Rattle.std.specs.List.Sorted.{IsStrictlyIncreasing};
 ghost use Rattle.wi_values.specs.Address.{is_one_of};
-ghost use Rattle.wi_worlds.specs.Reached.{is_known, reached_by, reached_cells, tells, told_cells, AddsOf};
-ghost use Rattle.wi_worlds.specs.Inner.Shared.{told_in};
+ghost use Rattle.wi_worlds.specs.Reached.{is_known, reached_by, reached_cells, has_recorded, recorded_cells, AddsOf};
+ghost use Rattle.wi_worlds.specs.Inner.Shared.{recorded_in};
 
 use crate::rising::{RisingCells, has_next};
 use crate::world::World;
@@ -17,22 +17,22 @@ use wi_values::{Address, Replacement};
 /// Cells by a cell that reaches them.
 type Reached = HashMap<Address, RisingCells>;
 
-/// Which of some others each cell reaches. Of those others that are known, all cells that reach them are told.
+/// Which of some others each cell reaches. Of those others that are known, all cells that reach them are recorded.
 #[derive(Drop)]
 pub struct Reaches {
     known: RisingCells,
-    // Nothing where nothing was told. Behind a box, since each question takes it out and puts it back.
+    // Nothing where nothing was recorded. Behind a box, since each question takes it out and puts it back.
     reached: Option<Box<Reached>>,
     alloc: Global,
 }
 
 impl Model for Reaches {
     ghost use Rattle.wi_worlds.specs.Reached.{ReachTable};
-    ghost use Rattle.wi_worlds.specs.Inner.Shared.{told_in};
+    ghost use Rattle.wi_worlds.specs.Inner.Shared.{recorded_in};
 
     ghost Value = { ReachTable };
 
-    ghost view = { λ r. record { known = r.known; reached = told_in r.reached } };
+    ghost view = { λ r. record { known = r.known; reached = recorded_in r.reached } };
 }
 
 impl Reaches {
@@ -54,7 +54,7 @@ impl Reaches {
         self.known.as_slice().len()
     }
 
-    /// Whether nothing is known or told.
+    /// Whether nothing is known or recorded.
     pub fn is_empty(&self) -> bool
         ensures { IsTrue result ↔ (self.now ≡ record { known = []; reached = [] }) }
     {
@@ -79,7 +79,7 @@ impl Reaches {
     }
 
     /// Makes a cell known, with the cells that reach it. If memory runs out, the same are known as before, and of those that
-    /// reach this one some may be told. The work for each is a look-up.
+    /// reach this one some may be recorded. The work for each is a look-up.
     pub fn add(&mut self, at: Address, cone: &[Address]) -> Result<(), AllocError>
         ensures known { OnOk result ((a : ℕ) → is_known self.new a
             ≡ (at == a || is_known self.old a)) }
@@ -92,7 +92,7 @@ impl Reaches {
         self.known.insert(at)
     }
 
-    /// The cells that a cell is told to reach, in row-major order. One look-up.
+    /// The cells that a cell is recorded to reach, in row-major order. One look-up.
     pub(crate) fn reached(&self, at: Address) -> &[Address]
         ensures value { result.now ≡ reached_cells self.now at }
         ensures order { IsStrictlyIncreasing (reached_cells self.now at) }
@@ -104,9 +104,9 @@ impl Reaches {
     }
 }
 
-/// Whether nothing was told.
+/// Whether nothing was recorded.
 fn is_nothing(reached: &Option<Box<Reached>>) -> bool
-    ensures { IsTrue result ↔ (told_in reached.now ≡ []) }
+    ensures { IsTrue result ↔ (recorded_in reached.now ≡ []) }
 {
     match reached {
         Some(reached) => reached.is_empty(),
@@ -114,10 +114,10 @@ fn is_nothing(reached: &Option<Box<Reached>>) -> bool
     }
 }
 
-/// The cells that a cell is told to reach, in row-major order.
+/// The cells that a cell is recorded to reach, in row-major order.
 fn cells_of(reached: &Reached, at: Address) -> &[Address]
-    ensures value { result.now ≡ told_cells reached.now.entries at }
-    ensures order { IsStrictlyIncreasing (told_cells reached.now.entries at) }
+    ensures value { result.now ≡ recorded_cells reached.now.entries at }
+    ensures order { IsStrictlyIncreasing (recorded_cells reached.now.entries at) }
 {
     match reached.get(&at) {
         Some(cells) => cells.as_slice(),
@@ -125,16 +125,16 @@ fn cells_of(reached: &Reached, at: Address) -> &[Address]
     }
 }
 
-/// Tells of each of these cells that it reaches a cell. If memory runs out, it is told of some of them.
+/// Records of each of these cells that it reaches a cell. If memory runs out, it is recorded of some of them.
 fn tell(
     alloc: Global,
     reached: &mut Option<Box<Reached>>,
     at: Address,
     cone: &[Address],
 ) -> Result<(), AllocError>
-    ensures adds { AddsOf at cone.now (told_in reached.old) (told_in reached.new) }
+    ensures adds { AddsOf at cone.now (recorded_in reached.old) (recorded_in reached.new) }
     ensures all { OnOk result ((c : ℕ) → is_one_of cone.now c ≡ true
-        → tells (told_in reached.new) c at ≡ true) }
+        → has_recorded (recorded_in reached.new) c at ≡ true) }
 {
     match reached {
         Some(reached) => put_all(alloc, reached, at, cone),
@@ -147,7 +147,7 @@ fn tell(
     }
 }
 
-/// Tells of each of these cells that it reaches a cell. If memory runs out, it is told of some of them.
+/// Records of each of these cells that it reaches a cell. If memory runs out, it is recorded of some of them.
 fn put_all(
     alloc: Global,
     reached: &mut Reached,
@@ -156,7 +156,7 @@ fn put_all(
 ) -> Result<(), AllocError>
     ensures adds { AddsOf at cone.now reached.old.entries reached.new.entries }
     ensures all { OnOk result ((c : ℕ) → is_one_of cone.now c ≡ true
-        → tells reached.new.entries c at ≡ true) }
+        → has_recorded reached.new.entries c at ≡ true) }
 {
     reached.reserve(cone.len().saturating_sub(reached.len()))?;
     for cell in cone {
@@ -165,12 +165,12 @@ fn put_all(
     Ok(())
 }
 
-/// Tells of a cell that it reaches another. If memory runs out, the same is told as before.
+/// Records of a cell that it reaches another. If memory runs out, the same is recorded as before.
 fn put(alloc: Global, reached: &mut Reached, cell: Address, at: Address) -> Result<(), AllocError>
-    ensures ok { OnOk result ((c b : ℕ) → tells reached.new.entries c b
-        ≡ ((cell == c && at == b) || tells reached.old.entries c b)) }
-    ensures err { OnErr result ((c b : ℕ) → tells reached.new.entries c b
-        ≡ tells reached.old.entries c b) }
+    ensures ok { OnOk result ((c b : ℕ) → has_recorded reached.new.entries c b
+        ≡ ((cell == c && at == b) || has_recorded reached.old.entries c b)) }
+    ensures err { OnErr result ((c b : ℕ) → has_recorded reached.new.entries c b
+        ≡ has_recorded reached.old.entries c b) }
 {
     if let Some(cells) = reached.get_mut(&cell) {
         return cells.insert(at);

@@ -189,7 +189,7 @@ impl World {
         Ok(world)
     }
 
-    /// The replacements of the cells that a cell is told to reach. They are shared as by `reaching`, and the answer is the same
+    /// The replacements of the cells that a cell is recorded to reach. They are shared as by `reaching`, and the answer is the same
     /// whatever the last are. If memory runs out, the last stay as they were. What the cell reaches is looked up once; then the
     /// work grows with the count of the fewer, replacements or such cells, times the logarithm of that of the others; texts
     /// are compared with the last byte by byte.

@@ -1,5 +1,5 @@
 -- The replies to commands are what they were.
-use Rattle.wi_cli.proofs.Vocabulary.{◌≡◌, List, [], ◌∷◌, ◌++◌, map, ℕ, inl, inr, Option, Some, None, Ok, Err, codes, refl, sym, ap, ◌∙◌, subst₂, Refusal, State, left_by, refused as refused_line, reply, Bytes, Command, Cause, Stale, Holds, stale_cell, cell_told, Replies, accepted, unserved, Answer, Tells, IsStep, Runs, causes, was, SameReply, SameRuns}
+use Rattle.wi_cli.proofs.Vocabulary.{◌≡◌, List, [], ◌∷◌, ◌++◌, map, ℕ, inl, inr, Option, Some, None, Ok, Err, codes, refl, sym, ap, ◌∙◌, subst₂, Refusal, State, left_by, refused as refused_line, reply, Bytes, Command, Cause, Stale, Holds, stale_cell, cell_named, Replies, accepted, unserved, Answer, Tells, IsStep, Runs, causes, was, SameReply, SameRuns}
 use Rattle.wi_scenarios.specs.declared.refusal.Refusal.TheVariants as refusal
 use Rattle.wi_cli.specs.Inner.Run as old_run
 use Rattle.wi_cli.specs.Reply.{refused}
@@ -10,9 +10,9 @@ use Rattle.wi_cli.proofs.Ties.Steps.{same_step}
 use Rattle.wi_cli.proofs.Ties.Wants.{same_want}
 
 module _ (s : State) (c : Command) where
-  told_is : (x : Cause) (e : Refusal) → Tells s c x e → refused_line e ≡ codes "refused E" ++ code x ++ cell_told x (stale_cell s c) ++ codes "\n"
+  told_is : (x : Cause) (e : Refusal) → Tells s c x e → refused_line e ≡ codes "refused E" ++ code x ++ cell_named x (stale_cell s c) ++ codes "\n"
   unfolding refused_line
-  told_is Stale e t = ap refused_line t.2 ∙ ap (λ (o : Option ℕ). codes "refused E" ++ code Stale ++ cell_told Stale o ++ codes "\n") (sym t.1)
+  told_is Stale e t = ap refused_line t.2 ∙ ap (λ (o : Option ℕ). codes "refused E" ++ code Stale ++ cell_named Stale o ++ codes "\n") (sym t.1)
   told_is x e t = ap refused_line t
 
   no_memory : refused_line refusal.Memory ≡ codes "refused E01\n"
@@ -44,7 +44,7 @@ module _ (s : State) (c : Command) where
       inl (record {
         answer = Err e.0;
         is_step = (same_step s c (Err e.0)).1 (x, f.0, e.1);
-        reply_is = ap (λ (b : Bytes). codes "refused E" ++ b ++ cell_told x (stale_cell s c) ++ codes "\n") f.1 ∙ sym (told_is x e.0 e.1);
+        reply_is = ap (λ (b : Bytes). codes "refused E" ++ b ++ cell_named x (stale_cell s c) ++ codes "\n") f.1 ∙ sym (told_is x e.0 e.1);
         state_is = refl;
       })
   back told t (unserved may) = inr (record { reply_is = sym no_memory; state_is = refl; may = (same_want s c).1 may })

@@ -15,13 +15,13 @@ abbrev pub refused_code : ℕ → List ℕ
 refused_code code = codes "refused E" ++ digit_byte (code / 10) ∷ digit_byte (code % 10) ∷ []
 
 -- behind the code of a stale cell a space, and its address
-abbrev pub told_cell : Refusal → List ℕ
-told_cell (Stale at) = codes " " ++ address_text at
-told_cell e = []
+abbrev pub refused_cell : Refusal → List ℕ
+refused_cell (Stale at) = codes " " ++ address_text at
+refused_cell e = []
 
 -- the line of a refusal
 unfoldable pub refused : Refusal → List ℕ
-refused e = refused_code (code_of e) ++ told_cell e ++ codes "\n"
+refused e = refused_code (code_of e) ++ refused_cell e ++ codes "\n"
 
 -- the line `ok`
 abbrev pub ok_line : List ℕ

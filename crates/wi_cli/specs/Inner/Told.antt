@@ -28,7 +28,7 @@ Told (Some c) Done s t out = IsCallStep s c (Ok (t, out))
 Told (Some c) (Refused e) s t out = (t ≡ s) × RefusedAs e s c
 
 -- the bytes that tell it
-abbrev pub told_bytes : Reply → List ℕ → List ℕ
-told_bytes Passed out = []
-told_bytes Done out = out ++ ok_line
-told_bytes (Refused e) out = refused e
+abbrev pub reply_bytes : Reply → List ℕ → List ℕ
+reply_bytes Passed out = []
+reply_bytes Done out = out ++ ok_line
+reply_bytes (Refused e) out = refused e

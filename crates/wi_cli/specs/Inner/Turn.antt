@@ -13,7 +13,7 @@ use Rattle.wi_cli.specs.Inner.Front.{AppendsFront}
 use Rattle.wi_cli.specs.Inner.Script.{block_command}
 use Rattle.wi_cli.specs.Inner.Run.{WritesReplies}
 use Rattle.wi_cli.specs.Inner.Taken.{AreBlocksOf, TookLines, BrokeLines}
-use Rattle.wi_cli.specs.Inner.Told.{told_bytes}
+use Rattle.wi_cli.specs.Inner.Told.{reply_bytes}
 
 -- a block was taken, or nothing was there; this is its command, if it has one
 pub record TookBlock (command : Option Call) (whole : Bool) (buffer : List ℕ) (left : Option (List ℕ)) (buffer' : List ℕ) (left' : Option (List ℕ)) (count count' : ℕ) : Type 0 where
@@ -49,8 +49,8 @@ pub record CutShort (buffer : List ℕ) (left : Option (List ℕ)) (buffer' : Li
 
 -- the reply to a block that was taken, whole or up to the end, was written, or a front of it
 abbrev pub IsReplied : Bool → Reply → List ℕ → Result Bool RunFault → Option (List ℕ) → Option (List ℕ) → Type 0
-IsReplied whole reply records (Ok end) given given' = (end ≡ whole) × Appends given given' (told_bytes reply records)
-IsReplied whole reply records (Err Write) given given' = AppendsFront given given' (told_bytes reply records)
+IsReplied whole reply records (Ok end) given given' = (end ≡ whole) × Appends given given' (reply_bytes reply records)
+IsReplied whole reply records (Err Write) given given' = AppendsFront given given' (reply_bytes reply records)
 IsReplied whole reply records (Err e) given given' = ⊥
 
 abbrev pub Stopped : RunFault → List ℕ → Option (List ℕ) → List ℕ → Option (List ℕ) → ℕ → State → State → Option (List ℕ) → Option (List ℕ) → Type 0

@@ -50,20 +50,20 @@ abbrev pub last_after : Option Last → ℕ → ℕ → Last
 last_after old session n = record { length = n; session = session; before = before_of old session }
 
 -- an edit by another session that isn't among the first ones, so many, is noted
-abbrev pub tells : Option Last → ℕ → ℕ → Bool
-tells old session since = nat_lt since (before_of old session)
+abbrev pub is_noted_stale : Option Last → ℕ → ℕ → Bool
+is_noted_stale old session since = nat_lt since (before_of old session)
 
 -- that is so of the cell a
-abbrev pub is_told : List (ℕ × Last) → ℕ → ℕ → ℕ → Bool
-is_told notes session since a = tells (last_of notes a) session since
+abbrev pub is_noted_stale_of : List (ℕ × Last) → ℕ → ℕ → ℕ → Bool
+is_noted_stale_of notes session since a = is_noted_stale (last_of notes a) session since
 
 -- and it is in the rectangle
-abbrev pub is_told_in : Area → List (ℕ × Last) → ℕ → ℕ → ℕ → Bool
-is_told_in r notes session since a = is_within r a && is_told notes session since a
+abbrev pub is_noted_stale_in : Area → List (ℕ × Last) → ℕ → ℕ → ℕ → Bool
+is_noted_stale_in r notes session since a = is_within r a && is_noted_stale_of notes session since a
 
 -- and it is one of the wanted
-abbrev pub is_wanted_told : List Area → List (ℕ × Last) → ℕ → ℕ → ℕ → Bool
-is_wanted_told wanted notes session since a = is_within_one wanted a && is_told notes session since a
+abbrev pub is_wanted_noted_stale : List Area → List (ℕ × Last) → ℕ → ℕ → ℕ → Bool
+is_wanted_noted_stale wanted notes session since a = is_within_one wanted a && is_noted_stale_of notes session since a
 
 -- one edit more is noted of the cells that pass the test
 abbrev pub NotesMore : (ℕ → Bool) → ℕ → ℕ → List (ℕ × Last) → List (ℕ × Last) → Type 0
@@ -77,7 +77,7 @@ NotesEdit e n old new = NotesMore (λ a. are_narrow e.named && is_within_one e.n
 -- named. The counts are those of these edits.
 pub record AreNoted (es : List Edit) (counts : List ℕ) (notes : List (ℕ × Last)) : Type 0 where
   pub within : length counts ≤ length es
-  pub told : (a session since : ℕ) → is_named_narrowly (drop since (take (length counts) es)) session a ≡ tells (last_of notes a) session since
+  pub by_notes : (a session since : ℕ) → is_named_narrowly (drop since (take (length counts) es)) session a ≡ is_noted_stale (last_of notes a) session since
   pub counted : AreCounted (take (length counts) es) counts
 
 -- what holds of a log between calls

@@ -1,5 +1,5 @@
 -- A run of frames while there is room for all that it finds.
-use Rattle.wi_engine.proofs.Words.{◌≡◌, ◌≤◌, ◌+◌, ◌⊎◌, inl, inr, ◌||◌, ℕ, Bool, true, false, List, [], ◌∷◌, ◌++◌, Contains, Option, Some, is_some, Result, Ok, Err, IfOk, IsErr, OnOk, is_ok, IfOk-weaker, on_ok_weaker, refl, ap, sym, ◌∙◌, subst, arith, or_cases, or_from, or_left, or_right, true≢false, AllocError, Value, Replacement, Sheet, put_all, Counts, Key, cell_value, Case, case_of, reaching, same_case, Table, IsClosed, HasCase, SpentOn, IsSettled, RestsOnKept, same_case-refl, reaching_suffices, one_less_left, MemoState, IsTold, IsMemoOf, case_at, IsFormulaKey, IsUnvaluedKey, IsUnvalued, IsNext, not_kept, KeepsFound, WhereSpace, NeedsNoEvaluation, IsValuedAnew, Saved, Spends, ValuesCell, IsShownNow, FrameTakes, Keeps, Frame}
+use Rattle.wi_engine.proofs.Words.{◌≡◌, ◌≤◌, ◌+◌, ◌⊎◌, inl, inr, ◌||◌, ℕ, Bool, true, false, List, [], ◌∷◌, ◌++◌, Contains, Option, Some, is_some, Result, Ok, Err, IfOk, IsErr, OnOk, is_ok, IfOk-weaker, on_ok_weaker, refl, ap, sym, ◌∙◌, subst, arith, or_cases, or_from, or_left, or_right, true≢false, AllocError, Value, Replacement, Sheet, put_all, Counts, Key, cell_value, Case, case_of, reaching, same_case, Table, IsClosed, HasCase, SpentOn, IsSettled, RestsOnKept, same_case-refl, reaching_suffices, one_less_left, MemoState, IsComplete, IsMemoOf, case_at, IsFormulaKey, IsUnvaluedKey, IsUnvalued, IsNext, not_kept, KeepsFound, WhereSpace, NeedsNoEvaluation, IsValuedAnew, Saved, Spends, ValuesCell, IsShownNow, FrameTakes, Keeps, Frame}
 use Rattle.wi_engine.proofs.Places.{none_went}
 use Rattle.wi_engine.proofs.Ledger.{spends_none, spends_weaken}
 use Rattle.wi_engine.proofs.engine.NextCases.{unvalued_case}
@@ -19,15 +19,15 @@ once a true false e h = let z = h refl in cc
 once a false true e h = e
 once a false false e h = e
 
-kept_told : (m : MemoState) → IsTold m → KeepsFound m → IsTold (by_kept m)
-kept_told m t h c w = once (is_some (m.known c w)) (m.found c w) (m.kept c w) (t c w) (h c w)
+kept_complete : (m : MemoState) → IsComplete m → KeepsFound m → IsComplete (by_kept m)
+kept_complete m t h c w = once (is_some (m.known c w)) (m.found c w) (m.kept c w) (t c w) (h c w)
 
 kept_memory_of : (s : Sheet) (m : MemoState) → IsMemoOf s m → KeepsFound m → IsMemoOf s (by_kept m)
 kept_memory_of s m h w = record {
   sheet = h.sheet;
   right = h.right;
   closed = h.closed;
-  told = kept_told m h.told w;
+  complete = kept_complete m h.complete w;
 }
 
 kept_to_value : (s : Sheet) (m : MemoState) (k : Key) → IsFormulaKey s m k → IsFormulaKey s (by_kept m) k
@@ -41,7 +41,7 @@ kept_keeps m n k v w h = record {
   sheet = h.sheet;
   same = record { covers = h.same.covers; generation = h.same.generation; capacity = h.same.capacity; latest = h.same.latest };
   known = h.known;
-  told = kept_told n h.told w;
+  complete = kept_complete n h.complete w;
   places = h.places;
   gives_up = record { space = h.gives_up.space; stays = h.gives_up.stays };
 }
@@ -193,7 +193,7 @@ saving_ends {s} {old} {m} {n} t closed top i = run_ends (by_kept n) (kept t clos
 -- what needs no evaluation, and was not found, is kept
 kept_before : {s : Sheet} {m : MemoState} {w : List Replacement} {a : ℕ} (n : MemoState) → IsMemoOf s m → n ≡ m → NeedsNoEvaluation s m w a → IsValuedAnew s m w a → n.kept a (reaching s a w) ≡ true
 kept_before n h e (inl k) v = let z = v.formula in cc
-kept_before {s} {m} {w} {a} n h e (inr k) v = rw e (sym (h.told a (reaching s a w) ∙ ap (λ (b : Bool). b || m.kept a (reaching s a w)) v.unfound) ∙ k)
+kept_before {s} {m} {w} {a} n h e (inr k) v = rw e (sym (h.complete a (reaching s a w) ∙ ap (λ (b : Bool). b || m.kept a (reaching s a w)) v.unfound) ∙ k)
 
 -- a value looked up needs no evaluation
 pub found_easy : (s : Sheet) (m n : MemoState) (w : List Replacement) (a : ℕ) (k : Key) (v : Value) → IsMemoOf s m → n ≡ m → k.cell ≡ a → k.world ≡ reaching m.sheet a w → Some v ≡ n.known k.cell k.world → NeedsNoEvaluation s m w a
@@ -238,7 +238,7 @@ module _ {s : Sheet} {m : MemoState} {w : List Replacement} {a : ℕ} {k : Key} 
   not_easy h (inl j) = let z = u.formula in cc
   not_easy h (inr j) =
       let at : (f : Table) → f k.cell k.world ≡ false → f a (reaching s a w) ≡ false = λ f e. ap (λ (i : Case). f i.0 i.1) here ∙ e in
-      true≢false (sym j ∙ h.told a (reaching s a w) ∙ or_from (m.found a (reaching s a w)) (m.kept a (reaching s a w)) (at m.found u.to_find.unfound) (at m.kept u.to_find.unkept))
+      true≢false (sym j ∙ h.complete a (reaching s a w) ∙ or_from (m.found a (reaching s a w)) (m.kept a (reaching s a w)) (at m.found u.to_find.unfound) (at m.kept u.to_find.unkept))
 
   unvalued_settled : (n l : MemoState) → n ≡ m → WhereSpace s (λ ks. Contains ks (case_at k)) n (λ ks. l.kept k.cell k.world ≡ true) → WhereSpace s (HasCase s w a) m (λ ks. IsSettled s l.kept w a)
   unvalued_settled n l e h = λ ks closed top whole space.

@@ -90,7 +90,7 @@ module _ (s : Sheet) (kept : ℕ → List Replacement → Bool) (w : List Replac
 
 pub settled_now : (s : Sheet) (m n : MemoState) (w : List Replacement) (a : ℕ) → IsMemoOf s m → n ≡ m → KeepsFound m → NeedsNoEvaluation s n w a → IsSettled s m.kept w a
 settled_now s m n w a h e whole (inl k) = inl k
-settled_now s m n w a h e whole (inr k) = inr (at (or_cases (m.found a (reaching s a w)) (m.kept a (reaching s a w)) (sym (h.told a (reaching s a w)) ∙ ap (λ (x : MemoState). is_some (x.known a (reaching s a w))) (sym e) ∙ k)))
+settled_now s m n w a h e whole (inr k) = inr (at (or_cases (m.found a (reaching s a w)) (m.kept a (reaching s a w)) (sym (h.complete a (reaching s a w)) ∙ ap (λ (x : MemoState). is_some (x.known a (reaching s a w))) (sym e) ∙ k)))
   where
     at : (m.found a (reaching s a w) ≡ true) ⊎ (m.kept a (reaching s a w) ≡ true) → m.kept a (reaching s a w) ≡ true
     at (inl j) = whole a (reaching s a w) j

@@ -110,7 +110,7 @@ run_keeps s m n k v h keeps is = record {
   sheet = keeps.sheet ∙ h.sheet;
   right = right_kept s m.known n.known k v keeps.known is h.right;
   closed = subst (λ (covers : ℕ → Bool). IsClosedUnderReads s covers) (sym keeps.same.covers) h.closed;
-  told = keeps.told;
+  complete = keeps.complete;
 }
 
 -- ---- a new frame, and the same frame with more values

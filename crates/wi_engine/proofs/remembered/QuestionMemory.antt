@@ -1,5 +1,5 @@
 -- What is remembered in one question.
-use Rattle.wi_engine.proofs.Words.{◌≡◌, ◌==◌, ℕ, true, is_some, List, [], ◌∷◌, ◌++◌, Some, IfSome, Result, Ok, Err, OnOk, OnErr, refl, ap, sym, ◌∙◌, subst, inl, inr, ◌⊎◌, or_cases, or_left, list_any-append, or-false, AllocError, Value, Replacement, Sheet, put_all, Key, Entries, PutsIn, same_key, value_for, is_one_of, same_cell, cell_value, IsClosedUnderReads, IsTold, IsMemoOf, IsReadOrder, OneQuestion, key_of, question_state, remembered}
+use Rattle.wi_engine.proofs.Words.{◌≡◌, ◌==◌, ℕ, true, is_some, List, [], ◌∷◌, ◌++◌, Some, IfSome, Result, Ok, Err, OnOk, OnErr, refl, ap, sym, ◌∙◌, subst, inl, inr, ◌⊎◌, or_cases, or_left, list_any-append, or-false, AllocError, Value, Replacement, Sheet, put_all, Key, Entries, PutsIn, same_key, value_for, is_one_of, same_cell, cell_value, IsClosedUnderReads, IsComplete, IsMemoOf, IsReadOrder, OneQuestion, key_of, question_state, remembered}
 use Rattle.wi_engine.proofs.Places.{known_still, known_then}
 
 -- a list, cut before one of its cells
@@ -19,7 +19,7 @@ closed_order s order o c d m r f =
     ap (λ (xs : List ℕ). is_one_of xs d) k.2 ∙ list_any-append (λ (x : ℕ). x == d) k.0 (c ∷ k.1) ∙ or_left (is_one_of k.0 d) _ before
 
 -- all that is remembered was found
-pub all_found : (q : OneQuestion) → IsTold (question_state q)
+pub all_found : (q : OneQuestion) → IsComplete (question_state q)
 all_found q c w = sym (or-false (is_some (value_for q.values (key_of c w))))
 
 -- nothing is remembered yet
@@ -28,7 +28,7 @@ no_values s order values o e = record {
   sheet = refl;
   right = λ c w. subst (λ (es : Entries). IfSome (value_for es (key_of c w)) (λ v. v ≡ cell_value (put_all s w) c)) (sym e) tt;
   closed = closed_order s order o;
-  told = all_found (remembered s order values);
+  complete = all_found (remembered s order values);
 }
 
 -- a value is remembered for a key that was put in, or was before

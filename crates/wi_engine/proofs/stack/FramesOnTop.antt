@@ -12,8 +12,8 @@ pub none_there : {X : Type 0} (v : Vec X) → vec_len v ≡ 0 → v.items ≡ []
 none_there v z = nothing_there v.items (vec_len v) v.ok.0 z
 
 -- where a list's test tells that it has none
-pub none_told : {X : Type 0} (v : Vec X) (b : Bool) → b ≡ (vec_len v == 0) → b ≡ true → v.items ≡ []
-none_told v b told t = none_there v (eqb-true (vec_len v) 0 (sym told ∙ t))
+pub none_complete : {X : Type 0} (v : Vec X) (b : Bool) → b ≡ (vec_len v == 0) → b ≡ true → v.items ≡ []
+none_complete v b complete t = none_there v (eqb-true (vec_len v) 0 (sym complete ∙ t))
 
 pub only_one : (f : Frame) (a : ℕ) (others : Vec ℕ) → f.found.lists ≡ None → f.waiting ≡ Cells a others → others.items ≡ [] → f.scans.items ≡ [] → stacked f ≡ waits_for_one f.key f.formula.now a
 only_one f a others found waits alone scans =
@@ -106,15 +106,15 @@ module _ (es : List Entry) (e : Entry) (rs : List Rest) (r : Rest) {fs : List En
   rests_pushed h =
       let count : count_more fs ≡ count_more es + 1 = count_with es e is one in
       let all : count_more es ≡ length rs = h in
-      let told : count_more fs ≡ length qs = omega (arith, count, long, all) in
-      told
+      let complete : count_more fs ≡ length qs = omega (arith, count, long, all) in
+      complete
 
   pub rests_popped : HaveRests fs qs → HaveRests es rs
   rests_popped h =
       let count : count_more fs ≡ count_more es + 1 = count_with es e is one in
       let all : count_more fs ≡ length qs = h in
-      let told : count_more es ≡ length rs = omega (arith, count, long, all) in
-      told
+      let complete : count_more es ≡ length rs = omega (arith, count, long, all) in
+      complete
 
   pub on_rest : (f : Frame) → with_rest e.key e.formula.now r ≡ stacked f → HaveRests es rs → frames_in fs qs ≡ frames_in es rs ++ stacked f ∷ []
   on_rest f seen h =

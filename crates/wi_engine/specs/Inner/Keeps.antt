@@ -4,7 +4,7 @@ use Rattle.wi_values.specs.declared.value.Value.{Value}
 use Rattle.wi_values.specs.declared.replacement.Replacement.{Replacement}
 use Rattle.wi_cache.specs.declared.key.Key.{Key}
 use Rattle.wi_sheet.specs.Demand.{same_case}
-use Rattle.wi_engine.specs.Inner.MemoState.{MemoState, IsTold}
+use Rattle.wi_engine.specs.Inner.MemoState.{MemoState, IsComplete}
 use Rattle.wi_engine.specs.Inner.Saving.{TakesPlaces, GivesUpWhenFull}
 use Rattle.wi_engine.specs.Inner.Spends.{IsSameBeside}
 
@@ -14,7 +14,7 @@ pub record Keeps (old new : MemoState) (k : Key) (v : Value) : Type 0 where
   pub sheet : new.sheet ≡ old.sheet
   pub same : IsSameBeside old new
   pub known : (c : ℕ) (w : List Replacement) → IfSome (new.known c w) (λ x. (old.known c w ≡ Some x) ⊎ ((c ≡ k.cell) × (w ≡ k.world) × (x ≡ v)))
-  pub told : IsTold new
+  pub complete : IsComplete new
   pub places : TakesPlaces old new 0 1
   pub gives_up : GivesUpWhenFull old new
 

@@ -40,12 +40,12 @@ abbrev pub IsClosedUnderReads : Sheet → (ℕ → Bool) → Type 0
 IsClosedUnderReads s covers = (c d : ℕ) → covers c ≡ true → content_reads (content_of s c) d ≡ true → has_formula (content_of s d) ≡ true → covers d ≡ true
 
 -- what is remembered is what was found and what is kept
-abbrev pub IsTold : MemoState → Type 0
-IsTold m = (c : ℕ) (w : List Replacement) → is_some (m.known c w) ≡ (m.found c w || m.kept c w)
+abbrev pub IsComplete : MemoState → Type 0
+IsComplete m = (c : ℕ) (w : List Replacement) → is_some (m.known c w) ≡ (m.found c w || m.kept c w)
 
 -- what is remembered is so of this sheet
 pub record IsMemoOf (s : Sheet) (m : MemoState) : Type 0 where
   pub sheet : m.sheet ≡ s
   pub right : AreKnownRight s m.known
   pub closed : IsClosedUnderReads s m.covers
-  pub told : IsTold m
+  pub complete : IsComplete m

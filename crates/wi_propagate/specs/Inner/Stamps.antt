@@ -17,8 +17,8 @@ abbrev pub stamped_in : Generations → Generations → ℕ → ℕ
 stamped_in edited_at valid_since c = max (generation_in edited_at c) (generation_in valid_since c)
 
 -- the generations that these numbers tell of a sheet's cells
-unfoldable pub told : Sheet → Generations → Generations
-told s ns = map (λ c. (c, latest_among s (generation_in ns) (keys_of ns) c)) (keys_of ns ++ cells_with_formula s)
+unfoldable pub flushed : Sheet → Generations → Generations
+flushed s ns = map (λ c. (c, latest_among s (generation_in ns) (keys_of ns) c)) (keys_of ns ++ cells_with_formula s)
 
 -- the numbers are of edits that were accepted, and each cell is stamped with its generation or reaches a dirty one
 pub record AreKeptUp (s : Sheet) (edits : ℕ) (g : Stamps) : Type 0 where

@@ -1,4 +1,4 @@
-use Rattle.wi_cli.proofs.Vocabulary.{codes, on_ok_weaker, on_err_weaker, err_from_is_err_and, Appends-trans, refused, told_cell}
+use Rattle.wi_cli.proofs.Vocabulary.{codes, on_ok_weaker, on_err_weaker, err_from_is_err_and, Appends-trans, refused, refused_cell}
 use Rattle.wi_cli.proofs.TurnLemmas.{AppendsFront-append, AppendsFront-of}
 use Rattle.wi_cli.proofs.reply.write_refusal.Goals as goal
 
@@ -6,7 +6,7 @@ pub returns-in_err-write_code-clause-err : goal.returns-in_err-write_code-clause
 unfolding refused
 returns-in_err-write_code-clause-err g c =
     let p = err_from_is_err_and c.from_residual.result c.from_residual.ensures.1 in
-    rw (p.1, ← c.code.ensures) (AppendsFront-of _ _ _ (codes "\n") (AppendsFront-of _ _ _ (told_cell c.args.refusal.now) c.in_err-write_code.ensures.err))
+    rw (p.1, ← c.code.ensures) (AppendsFront-of _ _ _ (codes "\n") (AppendsFront-of _ _ _ (refused_cell c.args.refusal.now) c.in_err-write_code.ensures.err))
 
 pub returns-in_err-write_cell-clause-err : goal.returns-in_err-write_cell-clause-err
 unfolding refused

@@ -10,7 +10,7 @@ returns-clause-keeps c =
       sheet = search rules;
       same = record { covers = search rules; generation = search rules; capacity = search rules; latest = search rules };
       known = rw (← same) (known_kept c.keep.result c.self.inside.table c.keep.new.self c.args.key c.args.value c.keep.ensures.ok c.keep.ensures.err);
-      told = search rules;
+      complete = search rules;
       places = λ ks d. omega arith;
       gives_up = record { space = omega arith; stays = λ r k i. i };
     }

@@ -1,4 +1,4 @@
-use Rattle.wi_propagate.proofs.Words.{◌∙◌, ap, sym, subst, reaching, AreAllCones, Entries, Carried, Keeping, generation_in, keeping, state_in, told}
+use Rattle.wi_propagate.proofs.Words.{◌∙◌, ap, sym, subst, reaching, AreAllCones, Entries, Carried, Keeping, generation_in, keeping, state_in, flushed}
 use Rattle.wi_propagate.proofs.ReplacedCones.{worlds_all}
 use Rattle.wi_propagate.proofs.StampSteps.{stamped_is_flushed}
 use Rattle.wi_propagate.proofs.keeping.KeepingMemo.key.Goals as goal
@@ -19,13 +19,13 @@ returns-clause-generation c =
 pub returns-clause-same : goal.returns-clause-same
 returns-clause-same c =
     let i = c.self.inside in
-    let gs = told i.store.now.sheet i.generations.now.edited_at in
+    let gs = flushed i.store.now.sheet i.generations.now.edited_at in
     let view = ap (λ (x : Carried). keeping i.store.now.sheet i.store.now.edits gs x.given_up.entries x.kept) c.deref_mut-carried.ensures.value ∙ c.self.view_is in
     ap state_in (ap (λ (es : Entries). keeping i.store.now.sheet i.store.now.edits gs es c.deref_mut-carried.result.now.kept) c.catch_up.ensures ∙ view)
 
 pub returns-in_err-catch_up-clause-same : goal.returns-in_err-catch_up-clause-same
 returns-in_err-catch_up-clause-same c =
     let i = c.self.inside in
-    let gs = told i.store.now.sheet i.generations.now.edited_at in
+    let gs = flushed i.store.now.sheet i.generations.now.edited_at in
     let view = ap (λ (x : Carried). keeping i.store.now.sheet i.store.now.edits gs x.given_up.entries x.kept) c.deref_mut-carried.ensures.value ∙ c.self.view_is in
     ap state_in (ap (λ (es : Entries). keeping i.store.now.sheet i.store.now.edits gs es c.deref_mut-carried.result.now.kept) c.catch_up.ensures ∙ view)

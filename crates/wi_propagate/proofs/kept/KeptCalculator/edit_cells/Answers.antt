@@ -1,6 +1,6 @@
-use Rattle.wi_propagate.proofs.Words.{◌≡◌, ◌∙◌, ℕ, Some, None, Ok, IfSome, ap, sym, subst, if◌then◌else◌, keys_of, unwrap_or, Stored, applied, in_cone, AreEdgesOf, Staging, staging, edges_after, KeptValues, KeptSheet, generation_in, AreKeptRight, AreCarriedCones, kept_sheet, values_in, told, AreKeptUp, ArePlans, rules}
-use Rattle.wi_propagate.proofs.Editing.{edges_applied, refused_edit, refused_same, right_after_edit, right_unnamed, edit_told, edit_keeps_up}
-use Rattle.wi_propagate.proofs.StampSteps.{told_same, kept_up_more}
+use Rattle.wi_propagate.proofs.Words.{◌≡◌, ◌∙◌, ℕ, Some, None, Ok, IfSome, ap, sym, subst, if◌then◌else◌, keys_of, unwrap_or, Stored, applied, in_cone, AreEdgesOf, Staging, staging, edges_after, KeptValues, KeptSheet, generation_in, AreKeptRight, AreCarriedCones, kept_sheet, values_in, flushed, AreKeptUp, ArePlans, rules}
+use Rattle.wi_propagate.proofs.Editing.{edges_applied, refused_edit, refused_same, right_after_edit, right_unnamed, edit_flushed, edit_keeps_up}
+use Rattle.wi_propagate.proofs.StampSteps.{flushed_same, kept_up_more}
 use Rattle.wi_propagate.proofs.kept.KeptCalculator.edit_cells.Goals as goal
 
 pub invariant_of-self-in-Ok : goal.invariant_of-self-in-Ok
@@ -13,12 +13,12 @@ invariant_of-self-in-Ok c =
     let graph_is : c.commit.new.self ≡ staging (edges_after i.graph.now ch) None = c.commit.ensures ∙ ap (λ (x : Staging). staging (unwrap_or x.staged x.now) None) staged_is in
     let accepted : applied i.store ch ≡ Ok new = c.in-Ok.ensures in
     let edges = edges_applied i.graph.now i.store new ch h.1 accepted in
-    let right = subst (λ (v : KeptValues). AreKeptRight (record { stored = i.store; generations = told i.store.sheet i.generations.edited_at; values = v; counts = i.meter })) (sym c.carry_over_edit.ensures.values) h.3 in
-    let told_is = edit_told i.store new ch i.generations c.mark_dirty.new.self c.stamp.new.self c.args.cells.now c.edits.result accepted c.requires c.edits.ensures c.in_ok-mark_dirty.ensures.edited_at c.stamp.ensures.edited_at h.5 in (
+    let right = subst (λ (v : KeptValues). AreKeptRight (record { stored = i.store; generations = flushed i.store.sheet i.generations.edited_at; values = v; counts = i.meter })) (sym c.carry_over_edit.ensures.values) h.3 in
+    let flushed_is = edit_flushed i.store new ch i.generations c.mark_dirty.new.self c.stamp.new.self c.args.cells.now c.edits.result accepted c.requires c.edits.ensures c.in_ok-mark_dirty.ensures.edited_at c.stamp.ensures.edited_at h.5 in (
       c.carry_over_edit.ensures.there h.0,
       subst (λ (x : Staging). AreEdgesOf x.now new.sheet) (sym graph_is) edges,
       ap (λ (x : Staging). x.staged) graph_is,
-      right_after_edit i.store new ch c.edits.result (told i.store.sheet i.generations.edited_at) (told new.sheet c.stamp.new.self.edited_at) _ i.meter i.meter accepted told_is c.edits.ensures right,
+      right_after_edit i.store new ch c.edits.result (flushed i.store.sheet i.generations.edited_at) (flushed new.sheet c.stamp.new.self.edited_at) _ i.meter i.meter accepted flushed_is c.edits.ensures right,
       c.carry_over_edit.ensures.cones i.store.sheet new.sheet (subst (λ (x : Staging). AreEdgesOf x.now i.store.sheet) (sym staged_is) h.1)
           (subst (λ (x : Staging). IfSome x.staged (λ es. AreEdgesOf es new.sheet)) (sym staged_is) edges) h.4,
       edit_keeps_up i.store new ch i.generations c.mark_dirty.new.self c.stamp.new.self c.args.cells.now c.edits.result accepted c.requires c.edits.ensures c.in_ok-mark_dirty.ensures.edited_at c.stamp.ensures.edited_at h.5 c.in_ok-mark_dirty.ensures.valid_since c.in_ok-mark_dirty.ensures.stays
@@ -36,9 +36,9 @@ returns-in-Ok-clause-edited c =
       same_counts = ap (λ (k : KeptSheet). k.counts) c.self.view_is;
       same_values = search values_are;
       generations = subst
-          (λ (k : KeptSheet). (d : ℕ) → generation_in (told new.sheet c.stamp.new.self.edited_at) d ≡ (if in_cone k.stored.sheet (keys_of ch) d then new.edits else generation_in k.generations d)) c.self.view_is
-          (λ d. edit_told i.store new ch i.generations c.mark_dirty.new.self c.stamp.new.self c.args.cells.now c.edits.result c.in-Ok.ensures c.requires c.edits.ensures c.in_ok-mark_dirty.ensures.edited_at c.stamp.ensures.edited_at c.self.invariant.5 d
-          ∙ ap (λ (n : ℕ). if in_cone i.store.sheet (keys_of ch) d then n else generation_in (told i.store.sheet i.generations.edited_at) d) c.edits.ensures);
+          (λ (k : KeptSheet). (d : ℕ) → generation_in (flushed new.sheet c.stamp.new.self.edited_at) d ≡ (if in_cone k.stored.sheet (keys_of ch) d then new.edits else generation_in k.generations d)) c.self.view_is
+          (λ d. edit_flushed i.store new ch i.generations c.mark_dirty.new.self c.stamp.new.self c.args.cells.now c.edits.result c.in-Ok.ensures c.requires c.edits.ensures c.in_ok-mark_dirty.ensures.edited_at c.stamp.ensures.edited_at c.self.invariant.5 d
+          ∙ ap (λ (n : ℕ). if in_cone i.store.sheet (keys_of ch) d then n else generation_in (flushed i.store.sheet i.generations.edited_at) d) c.edits.ensures);
     }
 
 pub stamp-requires : goal.stamp-requires
@@ -61,7 +61,7 @@ pub returns-in_err-mark_dirty-clause-edited : goal.returns-in_err-mark_dirty-cla
 returns-in_err-mark_dirty-clause-edited c =
     let i = c.self.inside in
     refused_edit c.args.self.now _ _ _ (search rules) (ap (λ (k : KeptSheet). k.counts) c.self.view_is) (ap (λ (k : KeptSheet). k.values) c.self.view_is)
-    (λ d. told_same i.store.sheet i.generations.edited_at c.mark_dirty.new.self.edited_at c.mark_dirty.ensures.edited_at d ∙ ap (λ (k : KeptSheet). generation_in k.generations d) c.self.view_is)
+    (λ d. flushed_same i.store.sheet i.generations.edited_at c.mark_dirty.new.self.edited_at c.mark_dirty.ensures.edited_at d ∙ ap (λ (k : KeptSheet). generation_in k.generations d) c.self.view_is)
 
 pub invariant_of-self-in_err-stage : goal.invariant_of-self-in_err-stage
 invariant_of-self-in_err-stage c =
@@ -80,7 +80,7 @@ pub returns-in_err-stage-clause-edited : goal.returns-in_err-stage-clause-edited
 returns-in_err-stage-clause-edited c =
     let i = c.self.inside in
     refused_edit c.args.self.now _ _ _ (search rules) (ap (λ (k : KeptSheet). k.counts) c.self.view_is) (ap (λ (k : KeptSheet). k.values) c.self.view_is)
-    (λ d. told_same i.store.sheet i.generations.edited_at c.mark_dirty.new.self.edited_at c.mark_dirty.ensures.edited_at d ∙ ap (λ (k : KeptSheet). generation_in k.generations d) c.self.view_is)
+    (λ d. flushed_same i.store.sheet i.generations.edited_at c.mark_dirty.new.self.edited_at c.mark_dirty.ensures.edited_at d ∙ ap (λ (k : KeptSheet). generation_in k.generations d) c.self.view_is)
 
 pub invariant_of-self-in-Err : goal.invariant_of-self-in-Err
 invariant_of-self-in-Err c =
@@ -92,7 +92,7 @@ invariant_of-self-in-Err c =
       h.0,
       subst (λ (x : Staging). AreEdgesOf x.now c.apply_slice.new.self.sheet) (sym graph_is) (subst (λ (x : Stored). AreEdgesOf i.graph.now x.sheet) (sym store_is) h.1),
       ap (λ (x : Staging). x.staged) graph_is,
-      subst (λ (x : Stored). AreKeptRight (kept_sheet x (told x.sheet c.mark_dirty.new.self.edited_at) i.carried i.meter)) (sym store_is) (right_unnamed i.store i.generations c.mark_dirty.new.self c.mark_dirty.ensures.edited_at _ i.meter h.3),
+      subst (λ (x : Stored). AreKeptRight (kept_sheet x (flushed x.sheet c.mark_dirty.new.self.edited_at) i.carried i.meter)) (sym store_is) (right_unnamed i.store i.generations c.mark_dirty.new.self c.mark_dirty.ensures.edited_at _ i.meter h.3),
       subst (λ (x : Stored). AreCarriedCones x.sheet i.carried) (sym store_is) h.4,
       subst (λ (x : Stored). AreKeptUp x.sheet x.edits c.mark_dirty.new.self) (sym store_is) (kept_up_more i.store.sheet i.generations c.mark_dirty.new.self i.store.edits c.mark_dirty.ensures.edited_at c.mark_dirty.ensures.valid_since c.mark_dirty.ensures.stays h.5),
       subst (λ (x : Stored). ArePlans x.sheet i.plans) (sym store_is) h.6,
@@ -102,9 +102,9 @@ pub returns-in-Err-clause-edited : goal.returns-in-Err-clause-edited
 returns-in-Err-clause-edited c =
     let i = c.self.inside in
     let store_is : c.apply_slice.new.self ≡ i.store = refused_same (applied i.store c.args.changes.now) c.in-Err.fault i.store c.apply_slice.new.self c.in-Err.ensures in
-    let stays : (d : ℕ) → generation_in (told c.apply_slice.new.self.sheet c.mark_dirty.new.self.edited_at) d ≡ generation_in c.args.self.now.generations d = λ d.
-    ap (λ (x : Stored). generation_in (told x.sheet c.mark_dirty.new.self.edited_at) d) store_is
-    ∙ told_same i.store.sheet i.generations.edited_at c.mark_dirty.new.self.edited_at c.mark_dirty.ensures.edited_at d
+    let stays : (d : ℕ) → generation_in (flushed c.apply_slice.new.self.sheet c.mark_dirty.new.self.edited_at) d ≡ generation_in c.args.self.now.generations d = λ d.
+    ap (λ (x : Stored). generation_in (flushed x.sheet c.mark_dirty.new.self.edited_at) d) store_is
+    ∙ flushed_same i.store.sheet i.generations.edited_at c.mark_dirty.new.self.edited_at c.mark_dirty.ensures.edited_at d
     ∙ ap (λ (k : KeptSheet). generation_in k.generations d) c.self.view_is in
     record {
       same_counts = ap (λ (k : KeptSheet). k.counts) c.self.view_is;

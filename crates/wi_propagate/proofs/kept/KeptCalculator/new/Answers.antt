@@ -1,5 +1,5 @@
 use Rattle.wi_propagate.proofs.Words.{[], refl, ap, sym, subst, Sheet, AreEdgesOf, Staging}
-use Rattle.wi_propagate.proofs.StampSteps.{told_none, none_kept_up}
+use Rattle.wi_propagate.proofs.StampSteps.{flushed_none, none_kept_up}
 use Rattle.wi_propagate.proofs.Editing.{begins_right}
 use Rattle.wi_propagate.proofs.kept.KeptCalculator.new.Goals as goal
 
@@ -7,7 +7,7 @@ pub returns-clause-values : goal.returns-clause-values
 returns-clause-values c = c.in_ok-carried.ensures.values
 
 pub returns-clause-generations : goal.returns-clause-generations
-returns-clause-generations c = λ d. told_none c.new-2.result.sheet c.new-4.result d c.new-4.ensures
+returns-clause-generations c = λ d. flushed_none c.new-2.result.sheet c.new-4.result d c.new-4.ensures
 
 pub invariant_of-result : goal.invariant_of-result
 invariant_of-result c =

@@ -1,4 +1,4 @@
-use Rattle.wi_propagate.proofs.Words.{Some, is_ok, get_or, ◌≡◌, All, IfOk, OnOk, false, ℕ, List, ap, subst, IfOk-weaker, circular, HasEntry, table_entry, entry_demanded, IsWhatIfSettled, table_closed, entry_has, entry_shown, KeptSheet, generation_in, HasSpaceFor, is_kept, told, stamped_in, state_in, Owes}
+use Rattle.wi_propagate.proofs.Words.{Some, is_ok, get_or, ◌≡◌, All, IfOk, OnOk, false, ℕ, List, ap, subst, IfOk-weaker, circular, HasEntry, table_entry, entry_demanded, IsWhatIfSettled, table_closed, entry_has, entry_shown, KeptSheet, generation_in, HasSpaceFor, is_kept, flushed, stamped_in, state_in, Owes}
 use Rattle.wi_propagate.proofs.StampSteps.{all_stamped}
 use Rattle.wi_propagate.proofs.FlushingSteps.{dirty_over}
 use Rattle.wi_propagate.proofs.Questions.{but_plans, with_plans, begins, begun_right, may_be_read, asked_where, asked_settled, circular_entry, circular_clash, open_cells, owes_none, owes_flushed, owes_spent, flushed_view, settled_right, holds_asked, holds_settled}
@@ -14,12 +14,12 @@ returns-then-entry_is_circular-clause-settled c = λ space one all.
 
 pub new-memo-requires-clause-right : goal.new-memo-requires-clause-right
 new-memo-requires-clause-right c =
-    begun_right c.self.inside.store (told c.self.inside.store.sheet c.flush.new.self.edited_at) c.self.inside.carried c.self.inside.meter _ c.take_carried-carried.ensures.values (settled_right {s = c.self.inside.store} c.in_ok-flush.ensures.edited_at c.self.inside.carried c.self.inside.meter c.self.invariant.3)
+    begun_right c.self.inside.store (flushed c.self.inside.store.sheet c.flush.new.self.edited_at) c.self.inside.carried c.self.inside.meter _ c.take_carried-carried.ensures.values (settled_right {s = c.self.inside.store} c.in_ok-flush.ensures.edited_at c.self.inside.carried c.self.inside.meter c.self.invariant.3)
 
 pub planned_entry-result-requires-clause-formula_cell : goal.planned_entry-result-requires-clause-formula_cell
 planned_entry-result-requires-clause-formula_cell c =
     let i = c.self.inside in
-    let q = begins i.store (told i.store.sheet c.flush.new.self.edited_at) i.carried i.meter _ c.new-memo.result c.take_carried-carried.ensures.values c.new-memo.ensures.value c.new-memo.ensures.placed in
+    let q = begins i.store (flushed i.store.sheet c.flush.new.self.edited_at) i.carried i.meter _ c.new-memo.result c.take_carried-carried.ensures.values c.new-memo.ensures.value c.new-memo.ensures.placed in
     let s = i.store.sheet in
     let o = open_cells s c.args.formula_cell c.args.pairs.now c.entry_is_circular.result (c.entry_is_circular.ensures s c.self.invariant.1) c.if-entry_is_circular.false in
     may_be_read q c.args.formula_cell o.0
@@ -27,7 +27,7 @@ planned_entry-result-requires-clause-formula_cell c =
 pub planned_entry-result-requires-clause-replacing : goal.planned_entry-result-requires-clause-replacing
 planned_entry-result-requires-clause-replacing c =
     let i = c.self.inside in
-    let q = begins i.store (told i.store.sheet c.flush.new.self.edited_at) i.carried i.meter _ c.new-memo.result c.take_carried-carried.ensures.values c.new-memo.ensures.value c.new-memo.ensures.placed in
+    let q = begins i.store (flushed i.store.sheet c.flush.new.self.edited_at) i.carried i.meter _ c.new-memo.result c.take_carried-carried.ensures.values c.new-memo.ensures.value c.new-memo.ensures.placed in
     let s = i.store.sheet in
     let o = open_cells s c.args.formula_cell c.args.pairs.now c.entry_is_circular.result (c.entry_is_circular.ensures s c.self.invariant.1) c.if-entry_is_circular.false in
     λ j x less. may_be_read q (get_or c.args.pairs.now j x).1 (o.1 j x less)
@@ -37,7 +37,7 @@ invariant_of-self-2 c =
     let i = c.self.inside in
     let e = c.planned_entry-result.ensures in
     with_plans (Some c.into_carried.result) i.graph i.store c.flush.new.self c.planned_entry-result.new.question.meter c.planned_entry-result.new.plans (holds_asked i.carried i.graph i.store c.flush.new.self i.meter c.planned_entry-result.new.question.meter c.new-memo.result c.planned_entry-result.new.question.memo c.into_carried.result
-    (begins i.store (told i.store.sheet c.flush.new.self.edited_at) i.carried i.meter _ c.new-memo.result c.take_carried-carried.ensures.values c.new-memo.ensures.value c.new-memo.ensures.placed)
+    (begins i.store (flushed i.store.sheet c.flush.new.self.edited_at) i.carried i.meter _ c.new-memo.result c.take_carried-carried.ensures.values c.new-memo.ensures.value c.new-memo.ensures.placed)
     e.spends.same c.into_carried.ensures.kept e.spends.right.sheet c.into_carried.ensures.right c.into_carried.ensures.cones
     (holds_settled i.carried i.graph i.store i.generations c.flush.new.self i.meter c.in_ok-flush.ensures.edited_at (c.in_ok-flush.ensures.dirty i.store.sheet c.self.invariant.1) (but_plans i.carried i.graph i.store i.generations i.meter i.plans c.self.invariant))) c.planned_entry-result.ensures.plans
 
@@ -52,14 +52,14 @@ pub returns-clause-settled : goal.returns-clause-settled
 returns-clause-settled c =
     let i = c.self.inside in
     let view = flushed_view {s = i.store} c.in_ok-flush.ensures.edited_at i.carried i.meter c.args.self.now c.self.view_is in
-    let q = begins i.store (told i.store.sheet c.flush.new.self.edited_at) i.carried i.meter _ c.new-memo.result c.take_carried-carried.ensures.values c.new-memo.ensures.value c.new-memo.ensures.placed in
+    let q = begins i.store (flushed i.store.sheet c.flush.new.self.edited_at) i.carried i.meter _ c.new-memo.result c.take_carried-carried.ensures.values c.new-memo.ensures.value c.new-memo.ensures.placed in
     let s = i.store.sheet in
     let o = open_cells s c.args.formula_cell c.args.pairs.now c.entry_is_circular.result (c.entry_is_circular.ensures s c.self.invariant.1) c.if-entry_is_circular.false in
     let cases = entry_demanded s c.args.replacements.now c.args.formula_cell c.args.pairs.now in
     let has = entry_has s c.in_ok-world.world c.args.replacements.now c.args.formula_cell c.args.pairs.now o c.in_ok-world.ensures in
     let closed = table_closed s c.args.replacements.now c.args.formula_cell c.args.pairs.now in
     let Has = HasEntry s c.in_ok-world.world c.args.formula_cell c.args.pairs.now in
-    let new : KeptSheet = record { stored = i.store; generations = told i.store.sheet c.flush.new.self.edited_at; values = c.into_carried.result.value.kept; counts = c.planned_entry-result.new.question.meter } in
+    let new : KeptSheet = record { stored = i.store; generations = flushed i.store.sheet c.flush.new.self.edited_at; values = c.into_carried.result.value.kept; counts = c.planned_entry-result.new.question.meter } in
     let e = c.planned_entry-result.ensures in
     let x : ℕ × List (ℕ × ℕ) = (c.args.formula_cell, c.args.pairs.now) in
     subst (λ (y : KeptSheet). OnOk c.planned_entry-result.result (HasSpaceFor y (entry_demanded y.stored.sheet c.args.replacements.now c.args.formula_cell c.args.pairs.now) → circular y.stored.sheet c.args.formula_cell ≡ false → All (λ p. circular y.stored.sheet p.1 ≡ false) c.args.pairs.now
@@ -83,14 +83,14 @@ pub returns-clause-owes : goal.returns-clause-owes
 returns-clause-owes c =
     let i = c.self.inside in
     let view = flushed_view {s = i.store} c.in_ok-flush.ensures.edited_at i.carried i.meter c.args.self.now c.self.view_is in
-    let q = begins i.store (told i.store.sheet c.flush.new.self.edited_at) i.carried i.meter _ c.new-memo.result c.take_carried-carried.ensures.values c.new-memo.ensures.value c.new-memo.ensures.placed in
+    let q = begins i.store (flushed i.store.sheet c.flush.new.self.edited_at) i.carried i.meter _ c.new-memo.result c.take_carried-carried.ensures.values c.new-memo.ensures.value c.new-memo.ensures.placed in
     let s = i.store.sheet in
     let o = open_cells s c.args.formula_cell c.args.pairs.now c.entry_is_circular.result (c.entry_is_circular.ensures s c.self.invariant.1) c.if-entry_is_circular.false in
     let cases = entry_demanded s c.args.replacements.now c.args.formula_cell c.args.pairs.now in
     let has = entry_has s c.in_ok-world.world c.args.replacements.now c.args.formula_cell c.args.pairs.now o c.in_ok-world.ensures in
     let closed = table_closed s c.args.replacements.now c.args.formula_cell c.args.pairs.now in
     let Has = HasEntry s c.in_ok-world.world c.args.formula_cell c.args.pairs.now in
-    let new : KeptSheet = record { stored = i.store; generations = told i.store.sheet c.flush.new.self.edited_at; values = c.into_carried.result.value.kept; counts = c.planned_entry-result.new.question.meter } in
+    let new : KeptSheet = record { stored = i.store; generations = flushed i.store.sheet c.flush.new.self.edited_at; values = c.into_carried.result.value.kept; counts = c.planned_entry-result.new.question.meter } in
     subst (λ (x : KeptSheet). Owes x new (entry_demanded x.stored.sheet c.args.replacements.now c.args.formula_cell c.args.pairs.now) (is_ok c.planned_entry-result.result)) view
     (owes_spent q c.planned_entry-result.new.question.memo c.into_carried.result.value.kept c.planned_entry-result.new.question.meter c.into_carried.ensures.kept c.into_carried.ensures.within Has cases closed has _ c.planned_entry-result.ensures.spends)
 

@@ -1,4 +1,4 @@
-use Rattle.wi_propagate.proofs.Words.{◌∙◌, ap, told, emptied}
+use Rattle.wi_propagate.proofs.Words.{◌∙◌, ap, flushed, emptied}
 use Rattle.wi_propagate.proofs.Questions.{but_plans, emptied_view, holds_emptied, with_plans}
 use Rattle.wi_propagate.proofs.kept.KeptCalculatorCalculator.forget.Goals as goal
 
@@ -11,4 +11,4 @@ invariant_of-self c =
 pub returns : goal.returns
 returns c =
     let i = c.self.inside in
-    emptied_view i.carried c.forget_carried.new.carried c.forget_carried.ensures.values i.store i.meter (told i.store.sheet i.generations.edited_at) ∙ ap emptied c.self.view_is
+    emptied_view i.carried c.forget_carried.new.carried c.forget_carried.ensures.values i.store i.meter (flushed i.store.sheet i.generations.edited_at) ∙ ap emptied c.self.view_is

@@ -1,0 +1,27 @@
+use Rattle.wi_edit_log.proofs.Words.{◌∙◌, sym, is_noted_stale_of}
+use Rattle.wi_edit_log.proofs.Next.{fewer_left, searched_found, searched_none, searched_on, searched_start}
+use Rattle.wi_edit_log.proofs.noted.Noted.first_noted_stale_in.Goals as goal
+
+pub loop-ahead-init : goal.loop-ahead-init
+loop-ahead-init c = searched_start c.args.area (is_noted_stale_of c.args.self.now.notes.entries c.args.session c.args.since) c.first_cell-ahead.result c.first_cell-ahead.ensures
+
+pub returns-then-is_noted_stale : goal.returns-then-is_noted_stale
+returns-then-is_noted_stale c =
+    searched_found c.args.area (is_noted_stale_of c.args.self.now.notes.entries c.args.session c.args.since) c.in-Some.at
+    (rw c.in-Some.is at c.loop-ahead.invariant) (sym c.is_noted_stale.ensures ∙ c.if-is_noted_stale.true)
+
+pub cell_after-ahead-requires : goal.cell_after-ahead-requires
+cell_after-ahead-requires c = (rw c.in-Some.is at c.loop-ahead.invariant).within
+
+pub loop-ahead-smaller : goal.loop-ahead-smaller
+loop-ahead-smaller c =
+    rw c.in-Some.is (fewer_left c.args.area c.in-Some.at c.cell_after-ahead.result (rw c.in-Some.is at c.loop-ahead.invariant).within c.cell_after-ahead.ensures)
+
+pub loop-ahead-preserved : goal.loop-ahead-preserved
+loop-ahead-preserved c =
+    searched_on c.args.area (is_noted_stale_of c.args.self.now.notes.entries c.args.session c.args.since) c.in-Some.at c.cell_after-ahead.result
+    (rw c.in-Some.is at c.loop-ahead.invariant) (sym c.is_noted_stale.ensures ∙ c.if-is_noted_stale.false) c.cell_after-ahead.ensures
+
+pub returns : goal.returns
+returns c =
+    searched_none c.args.area (is_noted_stale_of c.args.self.now.notes.entries c.args.session c.args.since) (rw c.in_default.is at c.loop-ahead.invariant)

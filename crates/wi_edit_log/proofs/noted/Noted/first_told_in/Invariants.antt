@@ -1,9 +1,0 @@
-use Rattle.wi_edit_log.proofs.Words.{places_left, is_told}
-use Rattle.wi_edit_log.proofs.Next.{IsSearched}
-use Rattle.wi_edit_log.proofs.noted.Noted.first_told_in.Given as goal
-
-abbrev pub invariant-loop-ahead : goal.invariant-loop-ahead
-invariant-loop-ahead l = IsSearched l.area (is_told l.self.notes.entries l.session l.since) l.ahead
-
-abbrev pub decreases-loop-ahead : goal.decreases-loop-ahead
-decreases-loop-ahead l = places_left l.area l.ahead
