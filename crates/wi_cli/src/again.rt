@@ -1,4 +1,4 @@
-//! What is given back where memory ran out, before a command is tried once more.
+//! What is freed where memory ran out, before a command is tried once more.
 
 ghost use Rattle.std.specs.Prelude.{◌≡◌, ◌↔◌, [], true, Err};
 ghost use Rattle.wi_scenarios.specs.declared.refusal.Refusal.TheVariants.{Memory};
@@ -15,7 +15,7 @@ pub(crate) fn lacks_memory(done: &Result<(), Refusal>) -> bool
 }
 
 /// Takes bytes away, and gives their memory back.
-pub(crate) fn give_back(bytes: &mut Vec<u8>)
+pub(crate) fn free_bytes(bytes: &mut Vec<u8>)
     ensures { bytes.new.items ≡ [] }
 {
     bytes.clear();
@@ -26,6 +26,6 @@ pub(crate) fn give_back(bytes: &mut Vec<u8>)
 pub(crate) fn forget<C: Calculator>(book: &mut Workbook<C>, spare: &mut Vec<u8>)
     ensures { book.new ≡ book.old }
 {
-    give_back(spare);
+    free_bytes(spare);
     book.forget();
 }

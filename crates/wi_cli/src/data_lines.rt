@@ -7,7 +7,7 @@ ghost use Rattle.wi_cli.specs.Lines.{max_lines};
 ghost use Rattle.wi_cli.specs.Inner.Reading.{raw, line_front, CanRead, ReadsOn};
 ghost use Rattle.wi_cli.specs.Inner.Data.{wants, Holds, HoldsLines, AddedTo, TookData, BrokeData};
 
-use crate::again::{forget, give_back};
+use crate::again::{forget, free_bytes};
 use crate::csv_line::CsvLine;
 use crate::fault::RunFault;
 use crate::lines::{LineReader, MAX_LINE, next_line};
@@ -54,7 +54,7 @@ fn append(bytes: &mut Vec<u8>, line: &[u8], whole: bool) -> Result<(), AllocErro
     Ok(())
 }
 
-/// Makes room for so many bytes more. Where memory runs out, what can be found again is given back, and memory is asked for once more when they
+/// Makes room for so many bytes more. Where memory runs out, what can be found again is freed, and memory is asked for once more when they
 /// are appended.
 fn reserve_bytes<C: Calculator>(
     bytes: &mut Vec<u8>,
@@ -70,7 +70,7 @@ fn reserve_bytes<C: Calculator>(
     }
 }
 
-/// Holds one more line, if lines are wanted and it is not too long. Where memory runs out, what can be found again is given back; where it runs
+/// Holds one more line, if lines are wanted and it is not too long. Where memory runs out, what can be found again is freed; where it runs
 /// out still, the lines before go too.
 fn hold<C: Calculator>(
     bytes: &mut Vec<u8>,
@@ -95,7 +95,7 @@ fn hold<C: Calculator>(
     match append(bytes, line, whole) {
         Ok(()) => Held::All,
         Err(_) => {
-            give_back(bytes);
+            free_bytes(bytes);
             Held::Lacking
         }
     }
@@ -163,7 +163,7 @@ impl DataLines {
 }
 
 /// Takes the data lines that a line asks for, as far as there are any, and tells whether the last LF came. The line's own is
-/// told by `whole`. Where memory runs out for them, all that can be found again is given back, with the memory of bytes that aren't used any more.
+/// told by `whole`. Where memory runs out for them, all that can be found again is freed, with the memory of bytes that aren't used any more.
 pub(crate) fn read_data<R: Source, C: Calculator>(
     script: &mut LineReader,
     source: &mut R,

@@ -59,7 +59,7 @@ pub(crate) fn new_workbook(
 }
 
 /// Runs a script on a new workbook, within the standard limits, that keeps so many values. The outcome and the costs are those of `run`. The
-/// workbook's memory is given back at the end of the process, not before.
+/// workbook's memory is freed at the end of the process, not before.
 pub fn run_new<R: Source, W: Sink>(
     alloc: Global,
     keep: usize,

@@ -37,7 +37,7 @@ pub fn run_in_turn<L: Source, R: Source, W: Sink, C: Calculator>(
 }
 
 /// Runs two scripts in turn on a new workbook, within the standard limits, that keeps so many values. The outcome and the costs are those of
-/// `run_in_turn`. The workbook's memory is given back at the end of the process, not before.
+/// `run_in_turn`. The workbook's memory is freed at the end of the process, not before.
 pub fn run_new_in_turn<L: Source, R: Source, W: Sink>(
     alloc: Global,
     keep: usize,

@@ -5,7 +5,7 @@ ghost use Rattle.wi_scenarios.specs.Step as spell;
 ghost use Rattle.wi_cli.specs.Inner.Spelling.{command_of, IsCommandOf};
 ghost use Rattle.wi_cli.specs.Inner.Told.{IsServed, Told};
 
-use crate::again::{forget, give_back, lacks_memory};
+use crate::again::{forget, free_bytes, lacks_memory};
 use crate::command::Command;
 use crate::reply::Reply;
 use wi_propagate::Calculator;
@@ -54,7 +54,7 @@ fn execute<C: Calculator>(
     }
 }
 
-/// Does a command for which memory ran out once more, after memory was given back, and leaves its records in `out`.
+/// Does a command for which memory ran out once more, after memory was freed, and leaves its records in `out`.
 #[cold]
 #[inline(never)]
 fn execute_again<C: Calculator>(
@@ -66,12 +66,12 @@ fn execute_again<C: Calculator>(
     ensures { IsServed (command_of command.now) result
         book.old.state book.new.state out.new.items }
 {
-    give_back(out);
+    free_bytes(out);
     forget(book, spare);
     execute(command, book, out)
 }
 
-/// Does a command, and leaves its records in `out`. Where memory runs out it is done once more, after memory was given back.
+/// Does a command, and leaves its records in `out`. Where memory runs out it is done once more, after memory was freed.
 #[inline(always)]
 fn execute_twice<C: Calculator>(
     command: &Command<'_>,

@@ -44,7 +44,7 @@ fn target(csv: &CsvLine, data_lines: &DataLines) -> Result<Address, Refusal>
     }
 }
 
-/// Imports data lines, and once more where memory runs out, after memory was given back.
+/// Imports data lines, and once more where memory runs out, after memory was freed.
 fn import_twice<C: Calculator>(
     book: &mut Workbook<C>,
     at: Address,
@@ -63,7 +63,7 @@ fn import_twice<C: Calculator>(
     done
 }
 
-/// Serves a line that asks for data lines. Where memory runs out, all that can be found again is given back, with the memory of bytes that aren't
+/// Serves a line that asks for data lines. Where memory runs out, all that can be found again is freed, with the memory of bytes that aren't
 /// used any more, and the lines are imported once more.
 pub(crate) fn serve_csv<C: Calculator>(
     book: &mut Workbook<C>,

@@ -104,7 +104,7 @@ impl Findings {
 
     /// Puts the lists into a pool, if there are any. The work grows with the count of their values.
     #[inline(always)]
-    pub(crate) fn give_back(self, pool: &mut Pool) {
+    pub(crate) fn recycle(self, pool: &mut Pool) {
         match self.lists {
             Some(lists) => pool.put(lists),
             None => {}

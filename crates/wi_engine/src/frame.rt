@@ -86,7 +86,7 @@ impl<'a> Frame<'a> {
     pub(crate) fn retire(self, pool: &mut Pool) -> Key
         ensures { result ≡ self.entry.key }
     {
-        self.found.give_back(pool);
+        self.found.recycle(pool);
         pool.put_scans(self.scans);
         self.key
     }

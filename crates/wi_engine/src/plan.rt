@@ -116,7 +116,7 @@ impl<M: Memo + Drop> Question<M> {
         }
         let alloc = self.pool.allocator();
         let value = ready_value(alloc, store, world, plan.root, &found, &mut self.meter)?;
-        found.give_back(&mut self.pool);
+        found.recycle(&mut self.pool);
         Ok(Some(value))
     }
 

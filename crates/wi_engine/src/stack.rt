@@ -271,7 +271,7 @@ fn take_one_cell<'a>(
     ensures frame { stacked frame.new ≡ waits_for_one key formula.now at }
 {
     let alloc = pool.allocator();
-    mem::replace(&mut frame.found, Findings { lists: None }).give_back(pool);
+    mem::replace(&mut frame.found, Findings { lists: None }).recycle(pool);
     pool.put_scans(mem::replace(&mut frame.scans, Vec::new(alloc)));
     frame.waiting = Waiting::Cells(at, Vec::new(alloc));
     frame.formula = formula;

@@ -33,9 +33,9 @@ unstaged rooms readers cyclic (Some x) e h = cc
 pub cyclic_over : (f g : ℕ → Option (List Area)) (p q : ℕ → Bool) → ((c : ℕ) → f c ≡ g c) → ((c : ℕ) → p c ≡ q c) → AreCyclic g q → AreCyclic f p
 cyclic_over f g p q e h a = record { sheet = a.sheet; are = λ c. e c ∙ a.are c; cyclic = λ c. h c ∙ a.cyclic c }
 
-pub taken_graph : (old new : Rooms) (next : Coming) (before after : Bag) (had has : BTreeSet ℕ) (turns : Turns) → IsStaged old next before had turns → IsOrdered nat_cmp new → ((c : ℕ) → room_at new c ≡ room_over next old c) → HasPairs after new →
+pub committed_graph : (old new : Rooms) (next : Coming) (before after : Bag) (had has : BTreeSet ℕ) (turns : Turns) → IsStaged old next before had turns → IsOrdered nat_cmp new → ((c : ℕ) → room_at new c ≡ room_over next old c) → HasPairs after new →
     ((c : ℕ) → contains nat_cmp has c ≡ less_these had turns.ceased.items c) → IsGraph new after has
-taken_graph old new next before after had has turns s o e p h = record {
+committed_graph old new next before after had has turns s o e p h = record {
   ordered = o;
   pairs = p;
   circular = cyclic_over (room_at new) (room_over next old) (contains nat_cmp has) (less_these had turns.ceased.items) e h s.after;
@@ -46,17 +46,17 @@ taken_graph old new next before after had has turns s o e p h = record {
 abbrev pub view_of : Rooms → Option Staged → Staging
 view_of rooms o = staging (edges_in rooms.entries) (option_map (λ x. edges_over (edges_in rooms.entries) x.next.items) o)
 
-pub taken_view : (old new : Rooms) (o after : Option Staged) (now : Staging) (x : Staged) → o ≡ Some x → after ≡ None → view_of old o ≡ now → edges_in new.entries ≡ edges_over (edges_in old.entries) x.next.items →
+pub committed_view : (old new : Rooms) (o after : Option Staged) (now : Staging) (x : Staged) → o ≡ Some x → after ≡ None → view_of old o ≡ now → edges_in new.entries ≡ edges_over (edges_in old.entries) x.next.items →
     view_of new after ≡ staging (unwrap_or now.staged now.now) None
-taken_view old new None after now x e f v k = cc
-taken_view old new (Some y) (Some z) now x e f v k = cc
-taken_view old new (Some y) None now x e f v k =
+committed_view old new None after now x e f v k = cc
+committed_view old new (Some y) (Some z) now x e f v k = cc
+committed_view old new (Some y) None now x e f v k =
     let s : y ≡ x = cc in
     ap (λ (z : Edges). staging z None) (k ∙ ap (λ (w : Staged). edges_over (edges_in old.entries) w.next.items) (sym s)) ∙ ap (λ (n : Staging). staging (unwrap_or n.staged n.now) None) v
 
-pub taken_back_view : (old new : Rooms) (o after : Option Staged) (now : Staging) → after ≡ None → view_of old o ≡ now → edges_in new.entries ≡ edges_in old.entries → view_of new after ≡ staging now.now None
-taken_back_view old new o (Some z) now f v k = cc
-taken_back_view old new o None now f v k = ap (λ (z : Edges). staging z None) k ∙ ap (λ (n : Staging). staging n.now None) v
+pub cancelled_view : (old new : Rooms) (o after : Option Staged) (now : Staging) → after ≡ None → view_of old o ≡ now → edges_in new.entries ≡ edges_in old.entries → view_of new after ≡ staging now.now None
+cancelled_view old new o (Some z) now f v k = cc
+cancelled_view old new o None now f v k = ap (λ (z : Edges). staging z None) k ∙ ap (λ (n : Staging). staging n.now None) v
 
 pub staged_is : (rooms : Rooms) (readers : Bag) (cyclic : BTreeSet ℕ) (o : Option Staged) (x : Staged) → o ≡ Some x → IfSome o (λ y. IsStaged rooms y.next.items readers cyclic y.turns) → IsStaged rooms x.next.items readers cyclic x.turns
 staged_is rooms readers cyclic o x e h = rw e at h

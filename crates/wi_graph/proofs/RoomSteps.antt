@@ -163,9 +163,9 @@ taking_step first_next first next later rooms new readers fewer k o stood is ord
         let h : times_in new p ≡ times_in rooms p = times_room new p (room_at rooms p.reader) (there p.reader e) in
         omega (arith, a, d, f, h, l p)
 
-pub taking_back_step : (first : Rooms) (next later : Coming) (rooms new : Rooms) (readers fewer : Bag) (k : ℕ) (o : Option (SmallVec Area)) → next ≡ later ++ (k, o) ∷ [] → Loses k (items_of o) readers fewer → IsOrdered nat_cmp new →
+pub cancelling_step : (first : Rooms) (next later : Coming) (rooms new : Rooms) (readers fewer : Bag) (k : ℕ) (o : Option (SmallVec Area)) → next ≡ later ++ (k, o) ∷ [] → Loses k (items_of o) readers fewer → IsOrdered nat_cmp new →
     ((c : ℕ) → room_at new c ≡ room_at rooms c) → IsTakingBack first next rooms readers → IsTakingBack first later new fewer
-taking_back_step first next later rooms new readers fewer k o is l ord n t = record {
+cancelling_step first next later rooms new readers fewer k o is l ord n t = record {
   ordered = ord;
   order = order_left next later k o t.order is;
   pairs = λ p. counted p (k == p.reader) refl;
@@ -206,5 +206,5 @@ taking_end first_next first next rooms readers h t = (
   λ p. let a = t.pairs p in let b = none_left next h p in omega (arith, a, b),
 )
 
-pub taking_back_end : (first : Rooms) (next : Coming) (rooms : Rooms) (readers : Bag) → next ≡ [] → IsTakingBack first next rooms readers → HasPairs readers rooms
-taking_back_end first next rooms readers h t = λ p. let a = t.pairs p in let b = none_left next h p in omega (arith, a, b)
+pub cancelling_end : (first : Rooms) (next : Coming) (rooms : Rooms) (readers : Bag) → next ≡ [] → IsTakingBack first next rooms readers → HasPairs readers rooms
+cancelling_end first next rooms readers h t = λ p. let a = t.pairs p in let b = none_left next h p in omega (arith, a, b)

@@ -21,7 +21,7 @@ use crate::beyond::{Cells, listed_beyond};
 use crate::cell_set::CellSet;
 use crate::changes::rooms_of;
 use crate::cone::{any_is_read, listed_cone};
-use crate::rooms::{Coming, Rooms, take_back, take_over};
+use crate::rooms::{Coming, Rooms, cancel_rooms, commit_rooms};
 use crate::sets::take_away;
 use crate::staging::bring_in;
 use crate::turning::{Turns, bring_cyclic, turns_of};
@@ -33,7 +33,7 @@ use wi_ranges::RangeIndex;
 use wi_tiles::CellMap;
 use wi_values::Address;
 
-/// An edit that is neither taken nor taken back yet. Its rooms are made, its pairs are in the index, and what it makes
+/// An edit that is neither committed nor rolled back yet. Its rooms are made, its pairs are in the index, and what it makes
 /// circular is in the set.
 #[derive(Drop)]
 struct Staged {
@@ -113,24 +113,24 @@ impl Graph {
         }
     }
 
-    /// Takes the edit that was staged, if one was. Takes no memory.
+    /// Commits the edit that was staged, if one was. Takes no memory.
     pub fn commit(&mut self)
         ensures { self.new ≡ staging (unwrap_or self.old.staged self.old.now) None }
     {
         let Some(staged) = &mut self.staged else {
             return;
         };
-        take_over(&mut self.rooms, &mut self.readers, &mut staged.next);
+        commit_rooms(&mut self.rooms, &mut self.readers, &mut staged.next);
         take_away(&mut self.cyclic, &staged.turns.ceased);
         self.staged = None;
     }
 
-    /// Takes back the edit that was staged, if one was. Takes no memory.
+    /// Rolls back the edit that was staged, if one was. Takes no memory.
     pub fn rollback(&mut self)
         ensures { self.new ≡ staging self.old.now None }
     {
         if let Some(mut staged) = self.staged.take() {
-            take_back(&mut self.rooms, &mut self.readers, &mut staged.next);
+            cancel_rooms(&mut self.rooms, &mut self.readers, &mut staged.next);
             take_away(&mut self.cyclic, &staged.turns.became);
         }
     }

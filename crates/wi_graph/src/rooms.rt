@@ -1,5 +1,5 @@
-//! Rooms for the rectangles that formulas read. An edit first makes its rooms and puts its pairs into the index; to take it
-//! or to take it back then needs no memory.
+//! Rooms for the rectangles that formulas read. An edit first makes its rooms and puts its pairs into the index; to commit it
+//! or to cancel it then needs no memory.
 
 ghost use Rattle.std.specs.Prelude.{◌≡◌, ◌==◌, ◌-◌, ℕ, None, false, if◌then◌else◌};
 ghost use Rattle.std.specs.Ordering.{nat_cmp};
@@ -10,7 +10,7 @@ ghost use Rattle.wi_graph.specs.Inner.Rooms.{items_of, room_at, room_over, areas
 
 use smallvec::SmallVec;
 use wi_ranges::RangeIndex;
-use wi_tiles::{CellMap, release_one};
+use wi_tiles::{CellMap, sweep_one};
 use wi_values::{Address, Rect};
 
 /// Rectangles that a formula reads, mostly one.
@@ -35,8 +35,8 @@ pub(crate) fn rectangles_in(room: &Option<Rectangles>) -> &[Rect]
     }
 }
 
-/// Takes what is next: it goes into the rooms, and the pairs of what stood there leave the index.
-pub(crate) fn take_over(rooms: &mut Rooms, readers: &mut RangeIndex, next: &mut Coming)
+/// Commits what is next: it goes into the rooms, and the pairs of what stood there leave the index.
+pub(crate) fn commit_rooms(rooms: &mut Rooms, readers: &mut RangeIndex, next: &mut Coming)
     requires ordered { IsOrdered nat_cmp rooms.old }
     requires order { AreInOrder next.old.items }
     requires has_rooms { HasRooms rooms.old next.old.items }
@@ -52,8 +52,8 @@ pub(crate) fn take_over(rooms: &mut Rooms, readers: &mut RangeIndex, next: &mut 
     }
 }
 
-/// Takes back what is next: its pairs leave the index, and its vacant rooms go.
-pub(crate) fn take_back(rooms: &mut Rooms, readers: &mut RangeIndex, next: &mut Coming)
+/// Cancels what is next: its pairs leave the index, and its vacant rooms go.
+pub(crate) fn cancel_rooms(rooms: &mut Rooms, readers: &mut RangeIndex, next: &mut Coming)
     requires ordered { IsOrdered nat_cmp rooms.old }
     requires order { AreInOrder next.old.items }
     requires pairs { HasBoth readers.old rooms.old next.old.items }
@@ -64,7 +64,7 @@ pub(crate) fn take_back(rooms: &mut Rooms, readers: &mut RangeIndex, next: &mut 
     'cells: while let Some(entry) = next.pop() {
         let (cell, room) = entry;
         remove_room(readers, cell, &room);
-        release_one(rooms, cell);
+        sweep_one(rooms, cell);
     }
 }
 

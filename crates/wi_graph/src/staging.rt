@@ -12,7 +12,7 @@ ghost use Rattle.wi_graph.specs.Inner.Staging.{HasThese};
 use crate::rooms::{Brought, Rectangles, Rooms, rectangles_in, remove_pairs, remove_room};
 use std::alloc::AllocError;
 use wi_ranges::RangeIndex;
-use wi_tiles::{make_room, release_one};
+use wi_tiles::{make_room, sweep_one};
 use wi_values::{Address, Rect};
 
 /// Makes rooms for what is to come, and puts its pairs into the index. If memory runs out, what stands in the rooms and the
@@ -36,7 +36,7 @@ pub(crate) fn bring_in(
         match bring_one(rooms, readers, entry.0, &entry.1) {
             Ok(()) => done += 1,
             Err(error) => {
-                take_out(rooms, readers, &coming[..done]);
+                cancel_these(rooms, readers, &coming[..done]);
                 return Err(error);
             }
         }
@@ -66,14 +66,14 @@ fn bring_one(
     match add_room(readers, cell, room) {
         Ok(()) => Ok(()),
         Err(error) => {
-            release_one(rooms, cell);
+            sweep_one(rooms, cell);
             Err(error)
         }
     }
 }
 
 /// Takes out again what is in: its pairs leave the index, and its vacant rooms go.
-fn take_out(rooms: &mut Rooms, readers: &mut RangeIndex, brought: &[Brought])
+fn cancel_these(rooms: &mut Rooms, readers: &mut RangeIndex, brought: &[Brought])
     requires ordered { IsOrdered nat_cmp rooms.old }
     requires pairs { HasThese readers.old rooms.old brought.now }
     ensures ordered { IsOrdered nat_cmp rooms.new }
@@ -82,7 +82,7 @@ fn take_out(rooms: &mut Rooms, readers: &mut RangeIndex, brought: &[Brought])
 {
     for entry in brought {
         remove_room(readers, entry.0, &entry.1);
-        release_one(rooms, entry.0);
+        sweep_one(rooms, entry.0);
     }
 }
 

@@ -82,11 +82,11 @@ fn edit_caught_up<C: Calculator>(
     let marked = marked_by(alloc, calculator, &desk.sessions, contents)?;
     match edit_with_rooms(calculator, desk, named, contents, &marked) {
         Ok(()) => {
-            desk.sessions.take_all();
+            desk.sessions.commit_all();
             Ok(())
         }
         Err(refusal) => {
-            desk.sessions.give_back_all();
+            desk.sessions.cancel_all();
             Err(refusal)
         }
     }

@@ -110,11 +110,11 @@ pub(crate) fn switch_to<C: Calculator>(
     ) {
         Ok(()) => {
             desk.scenarios = next;
-            desk.sessions.take_all();
+            desk.sessions.commit_all();
             Ok(())
         }
         Err(error) => {
-            desk.sessions.give_back_all();
+            desk.sessions.cancel_all();
             Err(error)
         }
     }

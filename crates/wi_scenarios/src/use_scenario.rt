@@ -60,11 +60,11 @@ fn use_in_current<C: Calculator>(
     match make_room_for_current(alloc, calculator, desk, name) {
         Ok(()) => {
             desk.sessions.use_scenario(desk.current, used);
-            desk.sessions.take_all();
+            desk.sessions.commit_all();
             Ok(())
         }
         Err(error) => {
-            desk.sessions.give_back_all();
+            desk.sessions.cancel_all();
             Err(error)
         }
     }

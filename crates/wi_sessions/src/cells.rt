@@ -121,7 +121,7 @@ pub(crate) fn stage(
     match stage_each(words, staged, cells, bits) {
         Ok(()) => Ok(()),
         Err(error) => {
-            give_back(words, staged);
+            cancel(words, staged);
             Err(error)
         }
     }
@@ -191,7 +191,7 @@ fn clear_staged(words: &mut Words, staged: &[StagedBits])
 }
 
 /// All rooms go.
-pub(crate) fn give_back(words: &mut Words, staged: &mut Vec<StagedBits>)
+pub(crate) fn cancel(words: &mut Words, staged: &mut Vec<StagedBits>)
     requires { IsOrdered nat_cmp words.old }
     ensures order { IsOrdered nat_cmp words.new }
     ensures pending { SamePending words.old.entries staged.old.items

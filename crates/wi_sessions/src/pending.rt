@@ -15,8 +15,8 @@ ghost use Rattle.wi_sessions.specs.Inner.Unread.{is_unread, HasPlace, HavePlaces
 
 use crate::bits::{are_alike, bit_of, bits_of, without};
 use crate::cells::{
-    StagedBits, Words, clear_each, drop_rooms, found, give_back, is_staged, push_those,
-    put_in_order, stage, stage_each, staged_of, walked,
+    StagedBits, Words, cancel, clear_each, drop_rooms, found, is_staged, push_those, put_in_order,
+    stage, stage_each, staged_of, walked,
 };
 use crate::unread::{Unread, track};
 use std::alloc::{AllocError, Global};
@@ -134,14 +134,14 @@ impl Pending {
         ) {
             Ok(()) => Ok(()),
             Err(error) => {
-                give_back(&mut self.words, &mut self.staged);
+                cancel(&mut self.words, &mut self.staged);
                 Err(error)
             }
         }
     }
 
     /// The cells for which there is room are pending now. Takes no memory, and no search.
-    pub(crate) fn take(&mut self)
+    pub(crate) fn commit(&mut self)
         ensures lists { length self.new.pending ≡ length self.old.pending }
         ensures pending { (i a : ℕ) → is_one_of (list_at self.new.pending i) a
             ≡ (is_one_of (list_at self.old.pending i) a
@@ -152,11 +152,11 @@ impl Pending {
     }
 
     /// All rooms go, at two look-ups each. Takes no memory.
-    pub(crate) fn give_back(&mut self)
+    pub(crate) fn cancel(&mut self)
         ensures pending { self.new.pending ≡ self.old.pending }
         ensures vacant { (i : ℕ) → list_at self.new.vacant i ≡ [] }
     {
-        give_back(&mut self.words, &mut self.staged);
+        cancel(&mut self.words, &mut self.staged);
     }
 
     /// Whether a cell is pending for each session. One look-up.

@@ -10,7 +10,7 @@ ghost use Rattle.wi_sessions.specs.Pictures.{same_value, value_in, with_changes}
 
 use std::alloc::{AllocError, Global};
 use std::marker::Model;
-use wi_tiles::{CellMap, exchange_all, make_rooms, release};
+use wi_tiles::{CellMap, exchange_all, make_rooms, sweep};
 use wi_values::{Address, Value};
 
 /// A cell, and the value that it has now.
@@ -100,7 +100,7 @@ fn put_changes(values: &mut CellMap<Value>, changes: &mut [Change]) -> Result<()
     }
     let before = values.len() as u64;
     let answer = exchange_values(values, before, changes);
-    release(values, changes, answer.unwrap_or(before));
+    sweep(values, changes, answer.unwrap_or(before));
     answer?;
     Ok(())
 }

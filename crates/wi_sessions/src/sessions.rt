@@ -230,23 +230,23 @@ impl Sessions {
     }
 
     /// The cells for which there is room are pending now, for each session. Takes no memory, and no search.
-    pub fn take_all(&mut self)
+    pub fn commit_all(&mut self)
         ensures sessions { self.new.sessions ≡ self.old.sessions }
         ensures lists { length self.new.pending ≡ length self.old.pending }
         ensures pending { (i a : ℕ) → is_one_of (pending_of self.new i) a
             ≡ (is_one_of (pending_of self.old i) a || is_one_of (vacant_of self.old i) a) }
         ensures vacant { (i : ℕ) → vacant_of self.new i ≡ [] }
     {
-        self.pending.take();
+        self.pending.commit();
     }
 
     /// The vacant rooms of all sessions go. Takes no memory. The work for each is that of two look-ups.
-    pub fn give_back_all(&mut self)
+    pub fn cancel_all(&mut self)
         ensures sessions { self.new.sessions ≡ self.old.sessions }
         ensures pending { self.new.pending ≡ self.old.pending }
         ensures vacant { (i : ℕ) → vacant_of self.new i ≡ [] }
     {
-        self.pending.give_back();
+        self.pending.cancel();
     }
 
     /// Each session has its pending cells. This is a law: the call does nothing.

@@ -19,7 +19,7 @@ use crate::rooms::{NewRoom, Rooms, prepare, room_for};
 use std::alloc::{AllocError, Global};
 use std::marker::Model;
 use wi_parser::{Content, NewContent};
-use wi_tiles::{CellMap, exchange_all, exchange_back, make_rooms, release};
+use wi_tiles::{CellMap, exchange_all, exchange_back, make_rooms, sweep};
 use wi_values::{Address, Rect};
 
 /// The contents of a sheet, with the count of accepted edits and the limits of both.
@@ -146,7 +146,7 @@ impl Store {
         let before = self.occupied();
         let answer = edit(&mut self.rooms, before, &self.limits, self.edits, brought);
         let occupied = answer.unwrap_or(before);
-        release(&mut self.rooms, brought, occupied);
+        sweep(&mut self.rooms, brought, occupied);
         answer?;
         self.edits += 1;
         Ok(())

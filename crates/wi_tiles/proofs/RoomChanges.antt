@@ -140,9 +140,9 @@ module _ {X : Type 0} (vacant : X) where
       → RoomsAreInOrder new → (room_of new x.0 ≡ Some vacant → ⊥)
       → ((q : ℕ) → room_of new q ≡ Some vacant → room_of old q ≡ Some vacant)
       → AreInEdit vacant (keys_of (drop i cs)) old → AreInEdit vacant (keys_of (drop (i + 1) cs)) new
-  edit_less cs i x old new l is order released kept h = record {
+  edit_less cs i x old new l is order swept kept h = record {
     order = order;
-    only = λ q v. ⊎_elim (λ t. absurd (released (ap (λ (a : ℕ). room_of new a) (eqb-true _ q t) ∙ v))) (λ t. t)
+    only = λ q v. ⊎_elim (λ t. absurd (swept (ap (λ (a : ℕ). room_of new a) (eqb-true _ q t) ∙ v))) (λ t. t)
         (or_cases (x.0 == q) _ (ap (λ (y : ℕ × X). is_one_of (keys_of (y ∷ drop (i + 1) cs)) q) is
         ∙ ap (λ (xs : List (ℕ × X)). is_one_of (keys_of xs) q) (sym (drop_more cs i x l)) ∙ h.only q (kept q v)));
   }

@@ -121,9 +121,9 @@ module _ {X : Type 0} (vacant : X) where
   -- ---- a vacant room taken away
 
   -- one taken away changes nothing
-  pub held_released : (a q : ℕ) (old new : List (ℕ × X)) → room_of new q ≡ cond (is_at (nat_cmp a) q) None (room_of old q)
+  pub held_swept : (a q : ℕ) (old new : List (ℕ × X)) → room_of new q ≡ cond (is_at (nat_cmp a) q) None (room_of old q)
       → room_of old a ≡ Some vacant → held_at vacant new q ≡ held_at vacant old q
-  held_released a q old new e n = by (is_at (nat_cmp a) q) refl e
+  held_swept a q old new e n = by (is_at (nat_cmp a) q) refl e
     where
       by : (b : Bool) → is_at (nat_cmp a) q ≡ b → room_of new q ≡ cond b None (room_of old q) → held_at vacant new q ≡ held_at vacant old q
       by true t f =
@@ -140,14 +140,14 @@ module _ {X : Type 0} (vacant : X) where
     left : (q : ℕ) → room_of new q ≡ cond (is_at (nat_cmp a) q) None (room_of old q)
     left q = found-removed old new a is order q
 
-    pub released_same : room_of old a ≡ Some vacant → HoldsTheSame vacant old new
-    released_same v q = held_released a q old new (left q) v
+    pub swept_same : room_of old a ≡ Some vacant → HoldsTheSame vacant old new
+    swept_same v q = held_swept a q old new (left q) v
 
-    pub released_room : room_of new a ≡ Some vacant → ⊥
-    released_room v = let z : None ≡ Some vacant = sym (left a ∙ ap (λ (b : Bool). cond b None (room_of old a)) (at_itself a)) ∙ v in cc
+    pub swept_room : room_of new a ≡ Some vacant → ⊥
+    swept_room v = let z : None ≡ Some vacant = sym (left a ∙ ap (λ (b : Bool). cond b None (room_of old a)) (at_itself a)) ∙ v in cc
 
-    pub released_vacant : (q : ℕ) → room_of new q ≡ Some vacant → room_of old q ≡ Some vacant
-    released_vacant q v = vacancy_kept (is_at (nat_cmp a) q) (room_of new q) (room_of old q) (left q) v
+    pub swept_vacant : (q : ℕ) → room_of new q ≡ Some vacant → room_of old q ≡ Some vacant
+    swept_vacant q v = vacancy_kept (is_at (nat_cmp a) q) (room_of new q) (room_of old q) (left q) v
 
   -- ---- where no room is vacant, what the cells have tells the rooms
 

@@ -17,6 +17,6 @@ mod window;
 mod within;
 
 pub use cell_map::CellMap;
-pub use rooms::{exchange_all, exchange_back, make_room, make_rooms, release, release_one};
+pub use rooms::{exchange_all, exchange_back, make_room, make_rooms, sweep, sweep_one};
 pub use vacant::MayBeVacant;
 pub use within::Within;

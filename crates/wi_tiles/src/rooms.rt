@@ -120,11 +120,11 @@ fn has_vacant<V: MayBeVacant + Drop>(rooms: &CellMap<V>, at: Address) -> bool
 }
 
 /// Takes away the room of a cell if it is vacant. One search, and one more for a room that goes.
-pub fn release_one<V: MayBeVacant + Drop>(rooms: &mut CellMap<V>, at: Address)
+pub fn sweep_one<V: MayBeVacant + Drop>(rooms: &mut CellMap<V>, at: Address)
     requires { RoomsAreInOrder rooms.old.entries }
     ensures same { HoldsTheSame V.vacant rooms.old.entries rooms.new.entries }
     ensures order { RoomsAreInOrder rooms.new.entries }
-    ensures released { room_of rooms.new.entries at ≢ Some V.vacant }
+    ensures swept { room_of rooms.new.entries at ≢ Some V.vacant }
     ensures vacant { (c : ℕ) → room_of rooms.new.entries c ≡ Some V.vacant
         → room_of rooms.old.entries c ≡ Some V.vacant }
 {
@@ -134,29 +134,25 @@ pub fn release_one<V: MayBeVacant + Drop>(rooms: &mut CellMap<V>, at: Address)
 }
 
 /// Takes away the vacant rooms. One search for each change, and one more for each room that goes.
-fn release_each<V: MayBeVacant + Drop>(rooms: &mut CellMap<V>, changes: &[(Address, V)])
+fn sweep_each<V: MayBeVacant + Drop>(rooms: &mut CellMap<V>, changes: &[(Address, V)])
     requires { AreInEdit V.vacant (keys_of changes.now) rooms.old.entries }
     ensures same { HoldsTheSame V.vacant rooms.old.entries rooms.new.entries }
     ensures between { AreBetweenEdits V.vacant rooms.new.entries }
 {
     for (at, _) in changes {
-        release_one(rooms, *at);
+        sweep_one(rooms, *at);
     }
 }
 
 /// Takes away the vacant rooms; `occupied` is how many cells have something. No search where no room is vacant; or else one for
 /// each change, and one more for each room that goes.
-pub fn release<V: MayBeVacant + Drop>(
-    rooms: &mut CellMap<V>,
-    changes: &[(Address, V)],
-    occupied: u64,
-)
+pub fn sweep<V: MayBeVacant + Drop>(rooms: &mut CellMap<V>, changes: &[(Address, V)], occupied: u64)
     requires edit { AreInEdit V.vacant (keys_of changes.now) rooms.old.entries }
     requires occupied { occupied ≡ length (taken V.is_taken rooms.old.entries) }
     ensures same { HoldsTheSame V.vacant rooms.old.entries rooms.new.entries }
     ensures between { AreBetweenEdits V.vacant rooms.new.entries }
 {
     if occupied < rooms.len() as u64 {
-        release_each(rooms, changes);
+        sweep_each(rooms, changes);
     }
 }

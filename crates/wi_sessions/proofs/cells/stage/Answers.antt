@@ -9,5 +9,5 @@ returns-in-Ok-clause-room c = c.in-Ok.ensures.rooms.room
 
 pub returns-in-Err-clause-pending : goal.returns-in-Err-clause-pending
 returns-in-Err-clause-pending c =
-    pending_then c.args.words.now.entries c.args.staged.now.items c.stage_each.new.words.entries c.stage_each.new.staged.items c.give_back.new.words.entries c.give_back.new.staged.items
-    c.in-Err.ensures.rooms.pending c.give_back.ensures.pending
+    pending_then c.args.words.now.entries c.args.staged.now.items c.stage_each.new.words.entries c.stage_each.new.staged.items c.cancel.new.words.entries c.cancel.new.staged.items
+    c.in-Err.ensures.rooms.pending c.cancel.ensures.pending

@@ -40,30 +40,30 @@ invariant_of-self c =
 
 -- ---- memory ran out
 
-pub give_back-requires : goal.give_back-requires
-give_back-requires c = c.stage_all.ensures.order
+pub cancel-requires : goal.cancel-requires
+cancel-requires c = c.stage_all.ensures.order
 
 pub returns-in-Err : goal.returns-in-Err
 returns-in-Err c =
     let i = c.self.inside in
-    let less = c.give_back.new.words.entries in
-    let none = c.give_back.new.staged.items in
+    let less = c.cancel.new.words.entries in
+    let none = c.cancel.new.staged.items in
     record {
       pending = ap (λ (m : ℕ). map (cells_in less none) (range_with_len 0 m)) c.stage_all.ensures.lists
-          ∙ pending_same i.words.entries i.staged.items less none (length i.unread.items) c.self.invariant.order c.give_back.ensures.order
-          (pending_then i.words.entries i.staged.items c.stage_all.new.words.entries c.stage_all.new.staged.items less none c.stage_all.ensures.pending c.give_back.ensures.pending)
+          ∙ pending_same i.words.entries i.staged.items less none (length i.unread.items) c.self.invariant.order c.cancel.ensures.order
+          (pending_then i.words.entries i.staged.items c.stage_all.new.words.entries c.stage_all.new.staged.items less none c.stage_all.ensures.pending c.cancel.ensures.pending)
           ∙ ap (λ (p : AllPending). p.pending) c.self.view_is;
       room = tt;
-      refused = λ j. rooms_gone less none (length c.stage_all.new.unread.items) j c.give_back.ensures.none;
+      refused = λ j. rooms_gone less none (length c.stage_all.new.unread.items) j c.cancel.ensures.none;
     }
 
 pub invariant_of-self-in-Err : goal.invariant_of-self-in-Err
 invariant_of-self-in-Err c =
     let i = c.self.inside in
     let mid = c.stage_all.new in
-    let new = c.give_back.new in
+    let new = c.cancel.new in
     let e = c.stage_all.ensures in
     kept_given i.words.entries i.staged.items mid.changed.items mid.unread.items
     (kept_at i.words.entries i.staged.items i.changed.items i.unread.items c.self.invariant mid.changed.items mid.unread.items e.lists (e.places i.words.entries c.self.invariant.places))
-    new.words.entries new.staged.items c.give_back.ensures.order
-    (pending_then i.words.entries i.staged.items mid.words.entries mid.staged.items new.words.entries new.staged.items e.pending c.give_back.ensures.pending) c.give_back.ensures.none
+    new.words.entries new.staged.items c.cancel.ensures.order
+    (pending_then i.words.entries i.staged.items mid.words.entries mid.staged.items new.words.entries new.staged.items e.pending c.cancel.ensures.pending) c.cancel.ensures.none

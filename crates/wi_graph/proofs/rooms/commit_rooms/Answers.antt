@@ -1,7 +1,7 @@
 use Rattle.wi_graph.proofs.Words.{◌≡◌, [], rules, ap, sym, ◌∙◌, arith, common_steps, in_room}
 use Rattle.wi_graph.proofs.ComingSteps.{last_there}
 use Rattle.wi_graph.proofs.RoomSteps.{taking_step, taking_end}
-use Rattle.wi_graph.proofs.rooms.take_over.Goals as goal
+use Rattle.wi_graph.proofs.rooms.commit_rooms.Goals as goal
 
 pub exchange-stood-requires-clause-room : goal.exchange-stood-requires-clause-room
 exchange-stood-requires-clause-room c h =

@@ -1,6 +1,6 @@
 use Rattle.wi_sessions.proofs.Words.{subst, is_staged, HasCleared}
 use Rattle.wi_sessions.proofs.WordLemmas.{Words, given_back}
-use Rattle.wi_sessions.proofs.cells.give_back.Goals as goal
+use Rattle.wi_sessions.proofs.cells.cancel.Goals as goal
 
 pub returns-clause-pending : goal.returns-clause-pending
 returns-clause-pending c =

@@ -1,6 +1,6 @@
 use Rattle.wi_graph.proofs.Words.{length}
 use Rattle.wi_graph.proofs.RoomSteps.{IsTakingBack}
-use Rattle.wi_graph.proofs.rooms.take_back.Given as goal
+use Rattle.wi_graph.proofs.rooms.cancel_rooms.Given as goal
 
 abbrev pub invariant-cells : goal.invariant-cells
 invariant-cells l = IsTakingBack l.fn.rooms l.next.items l.rooms l.readers

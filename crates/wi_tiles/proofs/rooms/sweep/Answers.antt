@@ -1,6 +1,6 @@
 use Rattle.wi_tiles.proofs.Words.{arith}
 use Rattle.wi_tiles.proofs.RoomLemmas.{no_vacancy}
-use Rattle.wi_tiles.proofs.rooms.release.Goals as goal
+use Rattle.wi_tiles.proofs.rooms.sweep.Goals as goal
 
 pub returns-else-occupied-len-clause-between : goal.returns-else-occupied-len-clause-between
 returns-else-occupied-len-clause-between g c = record {

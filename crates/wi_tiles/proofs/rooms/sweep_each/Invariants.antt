@@ -1,5 +1,5 @@
 use Rattle.wi_tiles.proofs.Words.{drop, keys_of, HoldsTheSame, AreInEdit}
-use Rattle.wi_tiles.proofs.rooms.release_each.Given as goal
+use Rattle.wi_tiles.proofs.rooms.sweep_each.Given as goal
 
 abbrev pub invariant-loop-at : goal.invariant-loop-at
 invariant-loop-at g l = record {

@@ -2,7 +2,7 @@ use Rattle.wi_sessions.proofs.Words.{◌∙◌, ◌||◌, ap, length, sym, AllPe
 use Rattle.wi_sessions.proofs.ViewLemmas.{so_many}
 use Rattle.wi_sessions.proofs.PlaceLemmas.{kept_taken}
 use Rattle.wi_sessions.proofs.PendingLemmas.{rooms_gone, taken_at}
-use Rattle.wi_sessions.proofs.pending.Pending.take.Goals as goal
+use Rattle.wi_sessions.proofs.pending.Pending.commit.Goals as goal
 
 pub returns-clause-lists : goal.returns-clause-lists
 returns-clause-lists c =
