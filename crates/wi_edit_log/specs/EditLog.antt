@@ -3,15 +3,14 @@ use Rattle.std.specs.Prelude.{ℕ, Bool, ◌==◌, ◌&&◌, not, min, List, dro
 use Rattle.std.specs.List.{list_any, flat_map, reduce}
 use Rattle.wi_values.specs.Address.{Area, is_within_one, cells_of}
 
--- an edit: the index of its session in the order of making, and the rectangles that it named
+-- an accepted edit, and the rectangles that it named
 pub record Entry : Type 0 where
   pub session : ℕ
   pub cells : List Area
 
--- a is stale for a session that has seen so many entries: an edit of another session after them names it
+-- an edit of another session after the first `since` names the cell
 abbrev pub is_stale : List Entry → ℕ → ℕ → ℕ → Bool
 is_stale log session since a = list_any (λ e. not (e.session == session) && is_within_one e.cells a) (drop since log)
 
--- the first of the rectangles' cells, in row-major order, that is stale
 abbrev pub first_stale : List Entry → ℕ → ℕ → List Area → Option ℕ
 first_stale log session since areas = reduce min (filter (is_stale log session since) (flat_map cells_of areas))

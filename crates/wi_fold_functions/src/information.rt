@@ -2,9 +2,9 @@
 
 ghost use Rattle.std.specs.Prelude.{IfOk, IfErr, refl};
 ghost use Rattle.wi_standard_functions.specs.Arithmetic.{whole_value};
-ghost use Rattle.wi_standard_functions.specs.Information.{count_value, count_a_value};
 ghost use Rattle.wi_arguments.specs.Arguments.{IsMissing, IsOfArguments};
 ghost use Rattle.wi_fold_functions.specs.Inner.Made.{numbers_with, filled_with};
+ghost use Rattle.wi_standard_functions.specs.Inner.Named.{count_value, count_a_value};
 
 use crate::fold::Fold;
 use crate::folding::fold_arguments;

@@ -1,9 +1,9 @@
 //! AND and OR (OpenFormula, "Logical Functions").
 
 ghost use Rattle.std.specs.Prelude.{◌≡◌, IfOk, IfErr, refl};
-ghost use Rattle.wi_standard_functions.specs.Logical.{and_value, or_value};
 ghost use Rattle.wi_arguments.specs.Arguments.{IsMissing, IsOfArguments};
 ghost use Rattle.wi_fold_functions.specs.Inner.Made.{all_with, any_with, logical_chosen};
+ghost use Rattle.wi_standard_functions.specs.Inner.Named.{and_value, or_value};
 
 use crate::fold::Fold;
 use crate::folding::fold_arguments;

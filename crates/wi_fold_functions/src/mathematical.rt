@@ -2,9 +2,9 @@
 
 ghost use Rattle.std.specs.Prelude.{IfOk, IfErr, refl};
 ghost use Rattle.wi_values.specs.declared.value.Value.TheVariants.{Number as number};
-ghost use Rattle.wi_standard_functions.specs.Mathematical.{sum_value, product_value};
 ghost use Rattle.wi_arguments.specs.Arguments.{IsMissing, IsOfArguments};
 ghost use Rattle.wi_fold_functions.specs.Inner.Made.{sum_with, product_with};
+ghost use Rattle.wi_standard_functions.specs.Inner.Named.{sum_value, product_value};
 
 use crate::fold::Fold;
 use crate::folding::fold_arguments;

@@ -1,8 +1,8 @@
 //! MIN, MAX and AVERAGE (OpenFormula, "Statistical Functions").
 
 ghost use Rattle.std.specs.Prelude.{◌≡◌, IfOk, IfErr, refl};
-ghost use Rattle.wi_standard_functions.specs.Statistical.{min_value, max_value, average_value};
-ghost use Rattle.wi_standard_functions.specs.Inner.Named.{smaller_number, greater_number};
+ghost use Rattle.wi_standard_functions.specs.Statistical.{average_value};
+ghost use Rattle.wi_standard_functions.specs.Inner.Named.{greater_number, max_value, min_value, smaller_number};
 ghost use Rattle.wi_arguments.specs.Arguments.{IsMissing, IsOfArguments};
 ghost use Rattle.wi_fold_functions.specs.Inner.Made.{least_with, greatest_with, mean_with, mean_of, mean_value, number_chosen};
 

@@ -7,6 +7,7 @@ pub mod NearWholes
 pub mod Neighbours
 pub mod Numbers
 pub mod Numerals
+pub mod OverOne
 pub mod Padded
 pub mod Pieces
 pub mod Places

@@ -18,11 +18,11 @@ rounded_size HalfAway n d = (2 * n + d) / (2 * d)
 rounded_size Away n d = (n + (d - 1)) / d
 rounded_size Toward n d = n / d
 
--- the greatest whole number that is at most x; it fits, as x does
+-- it fits, as x does
 unfoldable pub floored : Number → Number
 floored x = unwrap_or (number_of (floor_of x.num x.den) 1) x
 
--- x rounded to a whole number as the mode says; it fits, as x does
+-- it fits, as x does
 unfoldable pub rounded : Mode → Number → Number
 rounded m x = unwrap_or (number_of (signed (int_lt x.num (pos 0)) (rounded_size m (unsigned_abs x.num) x.den)) 1) x
 

@@ -5,7 +5,7 @@ use Rattle.wi_values.specs.Address.{is_one_of}
 use Rattle.wi_parser.specs.Sheet.{Sheet, content_of, cells_with_formula}
 use Rattle.wi_parser.specs.Reads.{content_reads}
 
--- the lists that have some of the elements, or none, in their order
+-- some of the elements, in their order
 abbrev pub sublists : List ℕ → List (List ℕ)
 sublists [] = [] ∷ []
 sublists (x ∷ xs) = sublists xs ++ map (λ ys. x ∷ ys) (sublists xs)

@@ -9,11 +9,12 @@ use Rattle.wi_parser.specs.declared.content.Content.TheVariants.{Constant}
 use Rattle.wi_import.specs.declared.fault.ImportFault.{ImportFault}
 use Rattle.wi_import.specs.declared.fault.ImportFault.TheVariants.{BadField, TooLong, OutOfSheet}
 use Rattle.wi_import.specs.Fields.{Field, IsInside}
+use Rattle.wi_fraction.specs.Text.{Bytes}
 
 -- an empty field empties its cell; another puts a constant there by the import rule
-pub data IsFieldContent : List ℕ → Option Content → Type 0 where
+pub data IsFieldContent : Bytes → Option Content → Type 0 where
   no_content : IsFieldContent [] None
-  a_constant : (bytes : List ℕ) (v : Value) → bytes ≢ [] → IsImported bytes (Some v) → IsFieldContent bytes (Some (Constant v))
+  a_constant : (bytes : Bytes) (v : Value) → bytes ≢ [] → IsImported bytes (Some v) → IsFieldContent bytes (Some (Constant v))
 
 -- a field's cell, and what it puts there
 abbrev pub IsChange : Field → ℕ × Option Content → Type 0

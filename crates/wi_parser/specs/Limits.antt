@@ -6,7 +6,7 @@ use Rattle.wi_parser.specs.declared.fault.ParseFault.TheVariants.{OutOfSheet, Nu
 use Rattle.wi_parser.specs.Symbol.{Symbol, is_out_of_sheet, is_unfit}
 use Rattle.wi_parser.specs.Nesting.{is_too_deep}
 
--- the greatest length of a formula's text in bytes
+-- in bytes
 abbrev pub max_formula : ℕ
 max_formula = 4096
 

@@ -30,13 +30,11 @@ opened (open_parenthesis ∷ ts) = suc (opened ts)
 opened (close_parenthesis ∷ ts) = opened ts - 1
 opened (s ∷ ts) = opened ts
 
--- a `+` or a `-`
 abbrev pub is_sign : Symbol → Bool
 is_sign (infix_mark Add) = true
 is_sign (infix_mark Subtract) = true
 is_sign s = false
 
--- the greatest nesting of parentheses, and of signs one after another
 abbrev pub max_depth : ℕ
 max_depth = 64
 

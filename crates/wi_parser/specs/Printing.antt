@@ -16,7 +16,6 @@ use Rattle.wi_parser.specs.Symbol.{Symbol, numeral, text_literal, reference, cor
 use Rattle.wi_parser.specs.Spelling.{spelling}
 use Rattle.wi_fraction.specs.Text.{Bytes}
 
--- `$` as written
 abbrev pub cell_named : Reference → WrittenCell
 cell_named r = record {
   column_is_absolute = r.column_is_absolute;

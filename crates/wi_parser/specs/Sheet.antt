@@ -13,7 +13,6 @@ use Rattle.wi_parser.specs.declared.content.Content.TheVariants.{Constant, Formu
 abbrev pub Sheet : Type 0
 Sheet = List (ℕ × Content)
 
--- what stands in a cell
 abbrev pub content_of : Sheet → ℕ → Option Content
 content_of s c = lookup (is_at (nat_cmp c)) s
 

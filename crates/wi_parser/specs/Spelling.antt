@@ -30,7 +30,6 @@ abbrev mutual
   spelling_of_more no_trees = close_parenthesis ∷ []
   spelling_of_more (more_trees t ts) = separator ∷ spelling t ++ spelling_of_more ts
 
--- the symbols are the tree's
 abbrev pub IsSpelling : Tree → List Symbol → Type 0
 IsSpelling t ts = IsGrammatical t × (ts ≡ spelling t)
 

@@ -8,7 +8,7 @@ use Rattle.wi_parser.specs.declared.expr.Sign.{Sign}
 use Rattle.wi_fraction.specs.Text.{Bytes}
 
 mutual
-  -- A what-if has its formula cell, and each input with its replacement cell, whose value it gets. A call's name is in capitals.
+  -- Each input has its replacement cell beside it. A call's name is in capitals.
   pub data Tree : Type 0 where
     number : Number → Tree
     text : Bytes → Tree

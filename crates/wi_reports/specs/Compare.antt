@@ -4,7 +4,7 @@ use Rattle.std.specs.Prelude.{ℕ, if◌then◌else◌, List, [], ◌∷◌, Opt
 use Rattle.std.specs.List.{flat_map}
 use Rattle.wi_fraction.specs.Number.{Number as Fraction}
 use Rattle.wi_fraction.specs.Arithmetic.{sum_of, negated}
-use Rattle.wi_fraction.specs.Text.{text_of}
+use Rattle.wi_fraction.specs.Text.{text_of, Bytes}
 use Rattle.wi_values.specs.Address.{Area, cells_of, address_text}
 use Rattle.wi_values.specs.Value.{shown_text, error_name}
 use Rattle.wi_values.specs.declared.value.Value.{Value}
@@ -17,20 +17,20 @@ use Rattle.wi_sessions.specs.Pictures.{same_value}
 use Rattle.wi_csv.specs.Row.{row}
 
 -- the text of a number, or `#NUM!` where there is none, as it doesn't fit
-abbrev pub number_text : Option Fraction → List ℕ
+abbrev pub number_text : Option Fraction → Bytes
 number_text None = error_name BadNumber
 number_text (Some x) = text_of x
 
--- the value in T minus that in S where both are numbers, else an empty field
-abbrev pub difference_text : Value → Value → List ℕ
+-- T less S, where both are numbers
+abbrev pub difference_text : Value → Value → Bytes
 difference_text (Number x) (Number y) = number_text (sum_of y (negated x))
 difference_text v w = []
 
 -- nothing where the values are one
-abbrev pub difference_record : ℕ → Value → Value → List ℕ
+abbrev pub difference_record : ℕ → Value → Value → Bytes
 difference_record a v w =
     if same_value v w then [] else row (address_text a ∷ shown_text v ∷ shown_text w ∷ difference_text v w ∷ [])
 
 -- for the replacements of S and those of T
-abbrev pub cells_compared : Sheet → List Replacement → List Replacement → Area → List ℕ
+abbrev pub cells_compared : Sheet → List Replacement → List Replacement → Area → Bytes
 cells_compared sheet p q area = flat_map (λ a. difference_record a (shown sheet p a) (shown sheet q a)) (cells_of area)

@@ -8,13 +8,14 @@ use Rattle.wi_parser.specs.declared.content.Content.TheVariants.{Constant, Formu
 use Rattle.wi_parser.specs.Printing.{printed}
 use Rattle.wi_parser.specs.Sheet.{Sheet, content_of}
 use Rattle.wi_csv.specs.Row.{row}
+use Rattle.wi_fraction.specs.Text.{Bytes}
 
--- a formula as it is printed, a text after `'`, another constant as it is shown, an empty text for no content
-abbrev pub content_text : Option Content → List ℕ
+-- a text after `'`, and another constant as it is shown
+abbrev pub content_text : Option Content → Bytes
 content_text None = []
 content_text (Some (Constant (Text bytes))) = codes "'" ++ bytes
 content_text (Some (Constant v)) = shown_text v
 content_text (Some (Formula t)) = printed t
 
-abbrev pub content_record : Sheet → ℕ → List ℕ
+abbrev pub content_record : Sheet → ℕ → Bytes
 content_record sheet at = row (address_text at ∷ content_text (content_of sheet at) ∷ [])

@@ -8,14 +8,15 @@ use Rattle.wi_values.specs.declared.replacement.Replacement.{Replacement}
 use Rattle.wi_parser.specs.Sheet.{Sheet}
 use Rattle.wi_sheet.specs.Shown as cell
 use Rattle.wi_csv.specs.Row.{row}
+use Rattle.wi_fraction.specs.Text.{Bytes}
 
 -- the text that a cell shows under replacements
-abbrev pub text_under : Sheet → List Replacement → ℕ → List ℕ
+abbrev pub text_under : Sheet → List Replacement → ℕ → Bytes
 text_under sheet put c = value.shown_text (cell.shown sheet put c)
 
-abbrev pub rows_shown : Sheet → List Replacement → Area → List ℕ
+abbrev pub rows_shown : Sheet → List Replacement → Area → Bytes
 rows_shown sheet put area = flat_map (λ r. row (map (text_under sheet put) (cells_of_row r area))) (rows_in area)
 
--- the line `lines N`, N being the number of LF bytes in the records, then these
-abbrev pub export_of : List ℕ → List ℕ
+-- N is the number of LF bytes in the records
+abbrev pub export_of : Bytes → Bytes
 export_of records = codes "lines " ++ decimal (count_by (λ b. b == byte "\n") records) ++ codes "\n" ++ records

@@ -21,13 +21,12 @@ value_of (Some (Formula t)) of_formula = of_formula t
 abbrev pub replacements : (ℕ → Value) → List (ℕ × ℕ) → List Replacement
 replacements cells pairs = map (λ p. record { at = p.0; value = cells p.1 }) pairs
 
--- A what-if's value, where `value` gives that of each cell of a sheet: its formula cell's, in the sheet with
--- each input replaced by the value that its replacement cell has in the sheet as it stands. The first pair's is
--- put in first, so that of two for one input the second stands.
+-- A what-if's value, where `value` gives that of each cell of a sheet. The replacement cells are valued in the sheet as it
+-- stands, and of two pairs for one input the second stands.
 abbrev pub what_if_in : (Sheet → ℕ → Value) → Sheet → ℕ → List (ℕ × ℕ) → Value
 what_if_in value s f pairs = value (put_all s (replacements (value s) pairs)) f
 
--- a formula's value, likewise: the meaning of its tree, where each cell and each what-if stands for its value
+-- a formula's value, likewise
 abbrev pub formula_in : (Sheet → ℕ → Value) → Sheet → Tree → Value
 formula_in value s t = zero_for_empty (meaning t (value s) (what_if_in value s))
 
@@ -42,8 +41,7 @@ value_within (suc k) s c =
 unfoldable pub cell_value : Sheet → ℕ → Value
 cell_value s c = value_within (length (cells_with_formula s)) s c
 
--- A what-if's value, which is only asked for where nothing that it reads is circular in the sheet as it stands:
--- by itself it would let a replacement cut a cycle.
+-- a what-if's value, which is asked for only where nothing that it reads is circular: it would let a replacement cut a cycle
 abbrev pub what_if_value : Sheet → ℕ → List (ℕ × ℕ) → Value
 what_if_value = what_if_in cell_value
 

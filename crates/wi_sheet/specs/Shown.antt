@@ -8,6 +8,6 @@ use Rattle.wi_parser.specs.Sheet.{Sheet, put_all}
 use Rattle.wi_graph.specs.Circular.{circular}
 use Rattle.wi_sheet.specs.CellValue.{cell_value}
 
--- Cycles are those of the sheet's own formulas: no replacement cuts one.
+-- No replacement cuts a cycle.
 unfoldable pub shown : Sheet → List Replacement → ℕ → Value
 shown s p c = if circular s c then Fault Circular else cell_value (put_all s p) c

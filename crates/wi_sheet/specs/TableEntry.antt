@@ -11,13 +11,11 @@ use Rattle.wi_graph.specs.Circular.{circular}
 use Rattle.wi_sheet.specs.CellValue.{what_if_value}
 use Rattle.wi_sheet.specs.Demand.{Case, case_of, what_if_case, demand, different}
 
--- the formula cell or a replacement cell of an entry is circular in the sheet as it stands
 abbrev pub asks_circular : Sheet → ℕ → List (ℕ × ℕ) → Bool
 asks_circular s f pairs = circular s f || list_any (λ x. circular s x.1) pairs
 
--- What an entry shows under replacements: Circular where its formula cell or a replacement cell is circular in the sheet as
--- it stands; else the what-if's value in the sheet with the replacements put in. It is valued as a formula in a cell of its
--- own that nothing reads, so Empty becomes 0.
+-- Circular where its formula cell or a replacement cell is, in the sheet as it stands; else the what-if's value under the
+-- replacements, valued as a formula in a cell of its own that nothing reads, so that Empty becomes 0.
 unfoldable pub table_entry : Sheet → List Replacement → ℕ → List (ℕ × ℕ) → Value
 table_entry s p f pairs =
     if asks_circular s f pairs then Fault Circular else zero_for_empty (what_if_value (put_all s p) f pairs)

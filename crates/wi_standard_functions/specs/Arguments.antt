@@ -7,13 +7,13 @@ use Rattle.wi_values.specs.declared.value.ErrorKind.TheVariants.{BadValue}
 use Rattle.wi_values.specs.declared.value.Value.{Value}
 use Rattle.wi_values.specs.declared.value.Value.TheVariants.{Empty}
 
--- what stands in a rectangle, the values of its cells in row-major order
+-- a rectangle, with the values of its cells in row-major order
 pub record Region : Type 0 where
   pub height : ℕ
   pub width : ℕ
   pub values : List Value
 
--- a parameter's value, and what it refers to where it is a reference, also in parentheses
+-- and what it refers to, also in parentheses
 pub record Argument : Type 0 where
   pub value : Value
   pub region : Option Region
@@ -26,7 +26,6 @@ region_of cells r = record {
   values = map cells (cells_of r);
 }
 
--- what is no reference has no region, whatever its value is
 abbrev pub region_referred : Argument → Result Region ErrorKind
 region_referred a = ok_or a.region BadValue
 

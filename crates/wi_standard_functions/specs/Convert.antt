@@ -1,8 +1,8 @@
 -- Values taken for numbers, whole numbers, truth values and texts (OpenFormula, "Implicit Conversion Operators").
 use Rattle.std.specs.Prelude.{ℕ, ℤ, pos, ◌≤◌, Bool, true, false, not, Result, Ok, Err}
 use Rattle.std.specs.Ordering.{int_eq}
-use Rattle.std.proofs.Common.{lit<, lit≤}
-use Rattle.wi_fraction.specs.Gcd.Laws.{gcd-one}
+use Rattle.std.proofs.Common.{lit≤}
+use Rattle.wi_fraction.proofs.OverOne.{whole_is_number}
 use Rattle.wi_fraction.specs.Number.{Number, max_size}
 use Rattle.wi_fraction.specs.Rounding.{rounded}
 use Rattle.wi_fraction.specs.declared.rounding.Mode.TheVariants.{Toward}
@@ -15,11 +15,7 @@ use Rattle.wi_values.specs.declared.value.Value.TheVariants as v
 use Rattle.wi_standard_functions.specs.Steps.{and_then}
 
 abbrev pub whole : (n : ℕ) → n ≤ max_size → Number
-whole n fits = record {
-  num = pos n;
-  den = 1;
-  is_number = record { above_zero = lit< tt; lowest = gcd-one n; num_fits = fits; den_fits = lit≤ tt };
-}
+whole n fits = record { num = pos n; den = 1; is_number = whole_is_number n fits }
 
 abbrev pub zero_number : Number
 zero_number = whole 0 (lit≤ tt)
@@ -30,7 +26,6 @@ one_number = whole 1 (lit≤ tt)
 abbrev pub hundred_number : Number
 hundred_number = whole 100 (lit≤ tt)
 
--- a text is no number
 abbrev pub to_number : value.Value → Result Number ErrorKind
 to_number v.Empty = Ok zero_number
 to_number (v.Number x) = Ok x
@@ -51,7 +46,6 @@ to_logical (v.Text t) = Err BadValue
 to_logical (v.Logical b) = Ok b
 to_logical (v.Fault e) = Err e
 
--- its shown text
 abbrev pub to_text : value.Value → Result Bytes ErrorKind
 to_text (v.Fault e) = Err e
 to_text x = Ok (shown_text x)

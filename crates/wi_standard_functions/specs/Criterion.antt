@@ -18,14 +18,13 @@ pub record Criterion : Type 0 where
 abbrev pub equal_to : Value → Criterion
 equal_to operand = record { relation = is_match is_eq; operand = operand }
 
--- neither Empty nor an error, and of another kind or not equal
 abbrev pub is_unequal : Value → Value → Bool
 is_unequal operand v = can_be_found v && not (is_match is_eq operand v)
 
 abbrev pub import_of : (text : Bytes) → (o : Option Value) × IsImported text o
 import_of text = the_import text
 
--- the constant that a text is taken for: what it is imported as
+-- what it is imported as
 abbrev pub constant_of : Bytes → Value
 constant_of text = unwrap_or (import_of text).0 (Text text)
 

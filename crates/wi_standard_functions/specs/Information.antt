@@ -1,5 +1,5 @@
 -- OpenFormula, "Information Functions".
-use Rattle.std.specs.Prelude.{◌≡◌, ◌↔◌, Bool, true, false, not, List, count_by, Option, Some, ok_or}
+use Rattle.std.specs.Prelude.{◌≡◌, ◌↔◌, Bool, true, false, List, count_by, Option, Some, ok_or}
 use Rattle.wi_fraction.specs.Number as numbers
 use Rattle.wi_fraction.specs.Text.{Bytes}
 use Rattle.wi_values.specs.Imported.{SpellsNumber}
@@ -44,13 +44,9 @@ is_not_available v = false
 
 -- ---- counts
 
--- COUNT: the Numbers; no error passes through
-abbrev pub count_value : List Argument → Value
-count_value args = whole_value (count_by (λ item. is_number_value (value_of_item item)) (sequence_of args))
-
--- COUNTA: what isn't Empty, also errors and empty texts
-abbrev pub count_a_value : List Argument → Value
-count_a_value args = whole_value (count_by (λ item. not (is_empty_value (value_of_item item))) (sequence_of args))
+-- COUNT and COUNTA: how many items pass; no error passes through
+abbrev pub counted : (Value → Bool) → List Argument → Value
+counted test args = whole_value (count_by (λ item. test (value_of_item item)) (sequence_of args))
 
 -- COUNTIF: the cells that meet the criterion
 abbrev pub count_if_value : List Argument → Value
@@ -59,7 +55,6 @@ count_if_value args = do
   criterion ← no_error (value_at args 1)
   whole_value (count_by (meets_criterion criterion) r.values)
 
--- the number that a text spells, if it spells one
 abbrev pub number_in : (text : Bytes)
     → (o : Option numbers.Number) × ((x : numbers.Number) → SpellsNumber text x ↔ (o ≡ Some x))
 number_in text = the_number text

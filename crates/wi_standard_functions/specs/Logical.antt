@@ -1,6 +1,5 @@
 -- OpenFormula, "Logical Functions".
 use Rattle.std.specs.Prelude.{Bool, true, false, not, List, [], ◌∷◌, if◌then◌else◌}
-use Rattle.std.specs.List.{list_all, list_any}
 use Rattle.wi_values.specs.declared.value.ErrorKind.TheVariants.{BadValue, NotAvailable}
 use Rattle.wi_values.specs.declared.value.Value.{Value}
 use Rattle.wi_values.specs.declared.value.Value.TheVariants.{Logical, Fault}
@@ -17,13 +16,11 @@ abbrev pub tested : (List Bool → Bool) → List Bool → Value
 tested test [] = Fault BadValue
 tested test (b ∷ bs) = Logical (test (b ∷ bs))
 
-abbrev pub and_value : List Argument → Value
-and_value args = do bs ← all_that_count logical_of_item (sequence_of args); tested (list_all (λ b. b)) bs
+-- AND and OR
+abbrev pub joined : (List Bool → Bool) → List Argument → Value
+joined test args = do bs ← all_that_count logical_of_item (sequence_of args); tested test bs
 
-abbrev pub or_value : List Argument → Value
-or_value args = do bs ← all_that_count logical_of_item (sequence_of args); tested (list_any (λ b. b)) bs
-
--- A missing second is TRUE, and a missing third FALSE. Only the error of the branch that is chosen counts.
+-- Only the error of the branch that is chosen counts.
 abbrev pub if_value : List Argument → Value
 if_value args = do
   b ← to_logical (value_at args 0)

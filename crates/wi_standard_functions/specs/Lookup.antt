@@ -36,7 +36,7 @@ cell_in r row column = unwrap_or (slice_get r.values (row * r.width + column)) (
 
 -- ---- INDEX
 
--- the k-th cell of the j-th row: a number below 1 comes before one that is too large
+-- one below 1 comes before one that is too large
 abbrev pub nth_cell : Region → ℤ → ℤ → Value
 nth_cell r j k =
     if int_lt j (pos 1) || int_lt k (pos 1) then Fault BadValue else (do
@@ -66,7 +66,7 @@ index_value args = if nat_le (length args) 2 then index_along args else index_by
 abbrev pub position_of : numbers.Number → Value → List Value → Result ℕ ErrorKind
 position_of match_type v vs = ok_or (match_position match_type (sought_for v) vs) NotAvailable
 
--- the position counts from 1, and the type is 1 if it is not given
+-- positions count from 1
 abbrev pub match_value : List Argument → Value
 match_value args = do
   v ← no_error (value_at args 0)
@@ -76,7 +76,7 @@ match_value args = do
   i ← position_of match_type v vs
   whole_value (i + 1)
 
--- The k-th cell of the line whose first cell is found; a fourth argument that is not given is TRUE.
+-- the k-th cell of the line whose first cell is found
 abbrev pub look_up_value : (Region → ℕ) → (Region → ℕ) → (Region → ℕ → ℕ → Value) → List Argument → Value
 look_up_value lines width cell args = do
   v ← no_error (value_at args 0)

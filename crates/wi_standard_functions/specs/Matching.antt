@@ -24,15 +24,14 @@ abbrev pub sought_for : Value → Value
 sought_for Empty = Number zero_number
 sought_for v = v
 
--- it has the kind of the one sought, and its order to that passes the test
+-- of the one sought's kind, and in such an order to it
 abbrev pub is_match : (Ordering → Bool) → Value → Value → Bool
 is_match test sought v = same_kind v sought && test (value_order v sought)
 
 abbrev pub last_position : (Value → Bool) → List Value → Option ℕ
 last_position test vs = last_or None (map (λ p. p.0) (filter (λ p. test p.1) (enumerate_from 0 vs)))
 
--- The position, from 0, also where the list isn't sorted: for type 0 of the first that is equal, below 0 of the last that is at
--- least the one sought, above 0 of the last that is at most that.
+-- Type 0 finds the first equal one, above 0 the last at most the one sought, below 0 the last at least that.
 abbrev pub match_position : numbers.Number → Value → List Value → Option ℕ
 match_position match_type sought vs =
     if int_eq match_type.num (pos 0) then position (is_match is_eq sought) vs else

@@ -11,7 +11,7 @@ use Rattle.wi_values.specs.declared.value.ErrorKind.TheVariants.{BadValue}
 use Rattle.wi_values.specs.declared.value.Value.{Value}
 use Rattle.wi_values.specs.declared.value.Value.TheVariants.{Empty, Number, Fault}
 use Rattle.wi_standard_functions.specs.Arguments.{Argument, Region, region_referred, region_at, region_or, value_at}
-use Rattle.wi_standard_functions.specs.Arithmetic.{addition, subtraction, multiplication, division}
+use Rattle.wi_standard_functions.specs.Arithmetic.{Operation, addition, division, multiplication, subtraction}
 use Rattle.wi_standard_functions.specs.Convert.{to_number, zero_number, one_number}
 use Rattle.wi_standard_functions.specs.Criterion.{meets_criterion}
 use Rattle.wi_standard_functions.specs.FirstError.{no_error}
@@ -47,11 +47,9 @@ mod_value n m = do
 abbrev pub sum_of_items : List Item → Result numbers.Number ErrorKind
 sum_of_items items = number_fold addition zero_number items
 
-abbrev pub sum_value : List Argument → Value
-sum_value args = do x ← sum_of_items (sequence_of args); Number x
-
-abbrev pub product_value : List Argument → Value
-product_value args = do x ← number_fold multiplication one_number (sequence_of args); Number x
+-- SUM and PRODUCT
+abbrev pub folded : Operation → numbers.Number → List Argument → Value
+folded calculate start args = do x ← number_fold calculate start (sequence_of args); Number x
 
 -- ---- of regions
 
@@ -79,13 +77,12 @@ abbrev pub of_one_size : List Region → Result (List Region) ErrorKind
 of_one_size [] = Ok []
 of_one_size (r ∷ rs) = if list_all (same_size r) rs then Ok (r ∷ rs) else Err BadValue
 
--- a cell that is no Number counts 0, and an error is the result
 abbrev pub factor : Value → Item
 factor (Number x) = from_cell (Number x)
 factor (Fault e) = from_cell (Fault e)
 factor v = from_cell (Number zero_number)
 
--- the product of the factors at one position, one of each region
+-- of one factor from each region
 abbrev pub product_at : List Region → ℕ → Value
 product_at rs i = do
   x ← number_fold multiplication one_number (map (λ r. factor (unwrap_or (slice_get r.values i) Empty)) rs)

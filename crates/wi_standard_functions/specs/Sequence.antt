@@ -9,7 +9,7 @@ use Rattle.wi_standard_functions.specs.Arithmetic.{Operation}
 use Rattle.wi_standard_functions.specs.Convert.{to_number, to_logical}
 use Rattle.wi_standard_functions.specs.Steps.{and_then, map_until_error, fold_until_error}
 
--- the value of a cell of a reference, or of another argument
+-- the value of a cell of a reference, or another
 pub data Item : Type 0 where
   from_cell : Value → Item
   scalar : Value → Item
@@ -35,7 +35,7 @@ number_of_item (from_cell (Fault e)) = Err e
 number_of_item (from_cell v) = Ok None
 number_of_item (scalar v) = and_then (λ x. Ok (Some x)) (to_number v)
 
--- the like of truth values: of cells the Numbers and Logicals count
+-- of cells the Numbers and Logicals count
 abbrev pub logical_of_item : Item → Result (Option Bool) ErrorKind
 logical_of_item (from_cell Empty) = Ok None
 logical_of_item (from_cell (Text t)) = Ok None
@@ -54,7 +54,7 @@ abbrev pub with_number : Operation → numbers.Number → Option numbers.Number 
 with_number calculate x None = Ok x
 with_number calculate x (Some y) = calculate x y
 
--- the first error met, of an item or of a step, is the result
+-- the first error met, also of a step, is the result
 abbrev pub number_fold : Operation → numbers.Number → List Item → Result numbers.Number ErrorKind
 number_fold calculate start items =
     fold_until_error (λ x item. and_then (with_number calculate x) (number_of_item item)) start items

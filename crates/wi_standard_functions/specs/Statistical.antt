@@ -1,7 +1,6 @@
 -- OpenFormula, "Statistical Functions".
 use Rattle.std.specs.Prelude.{Bool, List, length, unwrap_or, if◌then◌else◌}
 use Rattle.std.specs.List.{reduce}
-use Rattle.std.specs.Ordering.{is_lt, is_gt}
 use Rattle.std.specs.declared.cmp.Ordering.{Ordering}
 use Rattle.wi_fraction.specs.Order.{cross_cmp}
 use Rattle.wi_values.specs.declared.value.Value.{Value}
@@ -18,12 +17,6 @@ abbrev pub extreme_value : (Ordering → Bool) → List Argument → Value
 extreme_value test args = do
   xs ← numbers_of (sequence_of args)
   Number (unwrap_or (reduce (λ x y. if test (cross_cmp y x) then y else x) xs) zero_number)
-
-abbrev pub min_value : List Argument → Value
-min_value = extreme_value is_lt
-
-abbrev pub max_value : List Argument → Value
-max_value = extreme_value is_gt
 
 abbrev pub average_value : List Argument → Value
 average_value args = do

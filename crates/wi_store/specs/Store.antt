@@ -8,13 +8,12 @@ use Rattle.wi_store.specs.declared.fault.StoreFault.{StoreFault}
 use Rattle.wi_store.specs.declared.fault.StoreFault.TheVariants.{Full, EditLimit, Memory}
 use Rattle.wi_values.specs.Address.{Area, is_within}
 
--- a sheet, the count of accepted edits, and the limits of both
+-- with the count of accepted edits
 pub record Stored : Type 0 where
   pub sheet : Sheet
   pub edits : ℕ
   pub limits : Limits
 
--- the sheet with contents put in or taken away, one after another
 abbrev pub edited : Sheet → List (ℕ × Option Content) → Sheet
 edited s [] = s
 edited s (e ∷ es) = edited (with_content s e.0 e.1) es

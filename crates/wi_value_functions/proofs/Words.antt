@@ -39,10 +39,10 @@ pub use Rattle.wi_fraction.specs.declared.rounding.Mode.TheVariants.{Toward}
 pub use Rattle.wi_standard_functions.specs.Arguments.{Argument, value_or}
 pub use Rattle.wi_standard_functions.specs.Arithmetic.{fitting, limited_text, whole_number, whole_value}
 pub use Rattle.wi_standard_functions.specs.Convert.{to_text, to_whole}
-pub use Rattle.wi_standard_functions.specs.Functions.{has_parameters, of_one, of_three_or, of_two_or, value_of_call}
+pub use Rattle.wi_standard_functions.specs.Functions.{has_parameters, of_three_or, value_of_call}
 unfoldable pub use Rattle.wi_standard_functions.specs.Functions.{call_value, function_named, functions}
 pub use Rattle.wi_standard_functions.specs.Information.{value_value}
-pub use Rattle.wi_standard_functions.specs.Inner.Named.{one_value, power_value, zero_value}
+pub use Rattle.wi_standard_functions.specs.Inner.Named.{of_one, of_two_or, one_value, power_value, zero_value}
 pub use Rattle.wi_standard_functions.specs.Logical.{not_value}
 pub use Rattle.wi_standard_functions.specs.Mathematical.{abs_value, mod_value, quotient_value, sign_value}
 pub use Rattle.wi_standard_functions.specs.Rounding.{int_value, round_value}

@@ -2,14 +2,14 @@
 use Rattle.std.specs.Prelude.{Bool, List, map, None}
 use Rattle.wi_values.specs.declared.value.Value.{Value as AnyValue}
 use Rattle.wi_standard_functions.specs.Arguments.{Argument}
-use Rattle.wi_standard_functions.specs.Functions.{of_one, of_two, of_two_or, of_three, of_three_or, of_values, of_test}
-use Rattle.wi_standard_functions.specs.Inner.Named.{of_none, zero_value, one_value, na_value, true_value, false_value, power_value, is_no_text, is_other_error}
-use Rattle.wi_standard_functions.specs.Information.{count_value, count_a_value, count_if_value, is_empty_value, is_number_value, is_text_value, is_logical_value, is_error_value, is_not_available, value_value}
-use Rattle.wi_standard_functions.specs.Logical.{and_value, or_value, not_value, if_value, if_error_value, if_na_value}
+use Rattle.wi_standard_functions.specs.Functions.{of_three, of_three_or, of_values}
+use Rattle.wi_standard_functions.specs.Inner.Named.{and_value, count_a_value, count_value, false_value, is_no_text, is_other_error, max_value, min_value, na_value, of_none, of_one, of_test, of_two, of_two_or, one_value, or_value, power_value, product_value, sum_value, true_value, zero_value}
+use Rattle.wi_standard_functions.specs.Information.{count_if_value, is_empty_value, is_number_value, is_text_value, is_logical_value, is_error_value, is_not_available, value_value}
+use Rattle.wi_standard_functions.specs.Logical.{not_value, if_value, if_error_value, if_na_value}
 use Rattle.wi_standard_functions.specs.Lookup.{choose_value, index_value, match_value, v_lookup_value, h_lookup_value}
-use Rattle.wi_standard_functions.specs.Mathematical.{abs_value, sign_value, quotient_value, mod_value, sum_value, product_value, sum_if_value, sum_product_value}
+use Rattle.wi_standard_functions.specs.Mathematical.{abs_value, sign_value, quotient_value, mod_value, sum_if_value, sum_product_value}
 use Rattle.wi_standard_functions.specs.Rounding.{int_value, round_value}
-use Rattle.wi_standard_functions.specs.Statistical.{min_value, max_value, average_value}
+use Rattle.wi_standard_functions.specs.Statistical.{average_value}
 use Rattle.wi_standard_functions.specs.Text.{len_value, left_value, right_value, mid_value, concatenate_value, exact_value, find_value, rept_value}
 use Rattle.wi_value_functions.specs.declared.function.Function.{Function}
 use Rattle.wi_value_functions.specs.declared.function.Function.TheVariants.{Lazy, Values, References}

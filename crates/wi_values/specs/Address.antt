@@ -47,15 +47,12 @@ is_within r a =
     (nat_le (row_of r.first) (row_of a) && nat_le (row_of a) (row_of r.last))
     && (nat_le (column_of r.first) (column_of a) && nat_le (column_of a) (column_of r.last))
 
--- the cell is within one of these
 abbrev pub is_within_one : List Area → ℕ → Bool
 is_within_one areas a = list_any (λ r. is_within r a) areas
 
--- how many rows it has
 abbrev pub height : Area → ℕ
 height r = (row_of r.last + 1) - row_of r.first
 
--- how many columns it has
 abbrev pub width : Area → ℕ
 width r = (column_of r.last + 1) - column_of r.first
 
@@ -71,7 +68,6 @@ rows_in r = range_with_len (row_of r.first) (height r)
 abbrev pub cells_of : Area → List ℕ
 cells_of r = flat_map (λ row. cells_of_row row r) (rows_in r)
 
--- how many cells it has
 abbrev pub size_of : Area → ℕ
 size_of r = height r * width r
 
@@ -85,7 +81,7 @@ is_row r = row_of r.first == row_of r.last
 
 -- ---- texts of addresses
 
--- letters of either case in base 26: A is 1, Z 26, AA 27 and so on
+-- A is 1, Z 26, AA 27 and so on
 abbrev pub letters_value : Bytes → ℕ
 letters_value [] = 0
 letters_value (c ∷ cs) = (to_ascii_uppercase c - (byte "A" - 1)) * 26 ^ length cs + letters_value cs

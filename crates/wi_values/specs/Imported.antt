@@ -15,7 +15,6 @@ pub record IsWords (text : Bytes) : Type 0 where
   pub no_number : (x : Fraction) → SpellsNumber text x → ⊥
   pub no_name : (b : Bool) → text ≢ logical_name b
 
--- a number where the text spells one, a truth value where it names one, and else a text, unless that is too long
 pub data IsImported : Bytes → Option Value → Type 0 where
   a_number : (text : Bytes) (x : Fraction) → SpellsNumber text x → IsImported text (Some (Number x))
   a_truth_value : (b : Bool) → IsImported (logical_name b) (Some (Logical b))

@@ -4,7 +4,7 @@ use Rattle.std.specs.List.{list_all}
 use Rattle.std.specs.Char.{is_ascii_digit, is_ascii_alphabetic}
 use Rattle.std.specs.Str.{byte}
 use Rattle.wi_values.specs.declared.name.Name.{Name}
-use Rattle.wi_fraction.specs.Text.{Bytes}
+pub use Rattle.wi_fraction.specs.Text.{Bytes}
 
 -- in bytes
 abbrev pub max_name : ℕ

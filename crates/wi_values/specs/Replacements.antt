@@ -26,7 +26,6 @@ as_replacements es = map (λ e. record { at = e.0; value = e.1 }) es
 abbrev pub replaced : List Replacement → ℕ → Option Value
 replaced rs a = lookup (is_at (nat_cmp a)) (as_map rs)
 
--- one of the replacements is for the address
 abbrev pub is_replaced : List Replacement → ℕ → Bool
 is_replaced rs a = list_any (λ r. r.at == a) rs
 

@@ -1,5 +1,6 @@
 -- Parts of the definitions by names of their own.
 use Rattle.std.specs.Prelude.{ℕ, Bool, true, false, not, ◌&&◌, ◌||◌, ◌==◌, Result, Ok, Err, List, Option, option_map, if◌then◌else◌}
+use Rattle.std.specs.List.{list_all, list_any}
 use Rattle.std.specs.Ordering.{is_lt, is_gt}
 use Rattle.wi_fraction.specs.Number as numbers
 use Rattle.wi_fraction.specs.Order.{cross_cmp}
@@ -8,10 +9,13 @@ use Rattle.wi_values.specs.declared.value.ErrorKind.{ErrorKind}
 use Rattle.wi_values.specs.declared.value.ErrorKind.TheVariants.{BadValue, NotAvailable}
 use Rattle.wi_values.specs.declared.value.Value.{Value}
 use Rattle.wi_values.specs.declared.value.Value.TheVariants.{Number, Logical, Fault}
-use Rattle.wi_standard_functions.specs.Arguments.{Argument, Region, region_of}
-use Rattle.wi_standard_functions.specs.Arithmetic.{calculated, exponentiation}
+use Rattle.wi_standard_functions.specs.Arguments.{Argument, Region, region_of, value_at, value_or}
+use Rattle.wi_standard_functions.specs.Arithmetic.{addition, calculated, exponentiation, multiplication}
 use Rattle.wi_standard_functions.specs.Convert.{zero_number, one_number}
-use Rattle.wi_standard_functions.specs.Information.{is_text_value, is_error_value, is_not_available}
+use Rattle.wi_standard_functions.specs.Information.{counted, is_empty_value, is_error_value, is_not_available, is_number_value, is_text_value}
+use Rattle.wi_standard_functions.specs.Logical.{joined}
+use Rattle.wi_standard_functions.specs.Statistical.{extreme_value}
+use Rattle.wi_standard_functions.specs.Mathematical.{folded}
 
 abbrev pub of_none : Value → List Argument → Value
 of_none v args = v
@@ -57,3 +61,39 @@ values_along r = if (r.height == 1) || (r.width == 1) then Ok r.values else Err 
 
 abbrev pub type_for : Bool → numbers.Number
 type_for in_order = if in_order then one_number else zero_number
+
+abbrev pub of_one : (Value → Value) → List Argument → Value
+of_one f args = f (value_at args 0)
+
+abbrev pub of_two : (Value → Value → Value) → List Argument → Value
+of_two f args = f (value_at args 0) (value_at args 1)
+
+abbrev pub of_two_or : Value → (Value → Value → Value) → List Argument → Value
+of_two_or default f args = f (value_at args 0) (value_or default args 1)
+
+abbrev pub of_test : (Value → Bool) → List Argument → Value
+of_test test args = Logical (test (value_at args 0))
+
+abbrev pub and_value : List Argument → Value
+and_value = joined (list_all (λ b. b))
+
+abbrev pub or_value : List Argument → Value
+or_value = joined (list_any (λ b. b))
+
+abbrev pub min_value : List Argument → Value
+min_value = extreme_value is_lt
+
+abbrev pub max_value : List Argument → Value
+max_value = extreme_value is_gt
+
+abbrev pub count_value : List Argument → Value
+count_value = counted is_number_value
+
+abbrev pub count_a_value : List Argument → Value
+count_a_value = counted (λ v. not (is_empty_value v))
+
+abbrev pub sum_value : List Argument → Value
+sum_value = folded addition zero_number
+
+abbrev pub product_value : List Argument → Value
+product_value = folded multiplication one_number
