@@ -35,7 +35,7 @@ module _ (es fs : Entries) (k : Key) (v : Value) where
   abbrev pub PutsFor : Key → Type 0
   PutsFor gone = (q : Key) → value_for fs q ≡ update same_key (update same_key (value_for es) gone None) k (Some v) q
 
-  -- the same, of one key that stood
+  -- one key goes, and it stood; v stands for k, and for every other key what stood before
   pub record PutsForOne : Type 0 where
     pub gone : Key
     pub stood : IsSome (value_for es gone)

@@ -107,8 +107,10 @@ pub(crate) fn first_of_others(
     first
 }
 
-/// The same of the edits that name a wider rectangle. The counts tell for each edit how many in a row, up to it and with it, named
-/// narrow rectangles alone; such a row is one step too.
+/// The first of the wanted cells that an edit of another session, from a place on, names, where only edits that name a
+/// wider rectangle count. It goes from the last edit to earlier ones, and over each of the session's own runs in one
+/// step. The counts tell for each edit how many in a row, up to it and with it, named narrow rectangles alone; such a
+/// row is one step too.
 pub(crate) fn first_of_wide(
     edits: &[Edit],
     counts: &[u32],

@@ -59,7 +59,8 @@ impl EditLog {
         self.add_named(session, named)
     }
 
-    /// The same of rectangles that are named already.
+    /// Puts an edit at the end, of rectangles that are named already. On an error all is as before. The work doesn't
+    /// grow with the rectangles.
     pub fn add_named(&mut self, session: u32, named: Named) -> Result<(), AllocError>
         ensures ok { OnOk result (self.new
             ≡ self.old ++ record { session = session; cells = named } ∷ []) }

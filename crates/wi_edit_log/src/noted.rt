@@ -201,7 +201,8 @@ fn note(notes: &mut Notes, at: Address, session: u32, count: u32) -> Result<(), 
     Ok(())
 }
 
-/// The same of each cell of a rectangle. If memory runs out, a part is noted.
+/// Notes, for each cell of a rectangle, that of so many edits the last, of that session, named it. If memory runs out,
+/// a part is noted.
 fn note_area(notes: &mut Notes, area: Rect, session: u32, count: u32) -> Result<(), AllocError>
     ensures { OnOk result
         (NotesMore (is_within area) session count notes.old.entries notes.new.entries) }
@@ -214,7 +215,8 @@ fn note_area(notes: &mut Notes, area: Rect, session: u32, count: u32) -> Result<
     Ok(())
 }
 
-/// The same of each cell of some rectangles.
+/// Notes, for each cell of some rectangles, that of so many edits the last, of that session, named it. If memory runs
+/// out, a part is noted.
 fn note_areas(notes: &mut Notes, areas: &[Rect], session: u32, count: u32) -> Result<(), AllocError>
     ensures { OnOk result
         (NotesMore (is_within_one areas.now) session count notes.old.entries notes.new.entries) }
@@ -225,7 +227,8 @@ fn note_areas(notes: &mut Notes, areas: &[Rect], session: u32, count: u32) -> Re
     Ok(())
 }
 
-/// The same of each cell that an edit of narrow rectangles named; of another it notes nothing.
+/// Notes the last of so many edits for each cell that it named, where it named narrow rectangles alone; of another edit
+/// it notes nothing. If memory runs out, a part is noted.
 fn note_edit(notes: &mut Notes, edit: &Edit, count: u32) -> Result<(), AllocError>
     ensures { OnOk result (NotesEdit edit.now count notes.old.entries notes.new.entries) }
 {

@@ -124,7 +124,8 @@ impl Lists {
         self.add_later(at, value)
     }
 
-    /// The same, where it doesn't go to the first. It stands apart, so that an addition to the first takes little.
+    /// Adds the value of a cell behind those of the first: to the rising ones where it comes after all of them, else to
+    /// the others. It stands apart, so that an addition to the first takes little.
     #[inline(never)]
     fn add_later(&mut self, at: Address, value: Value) -> Result<(), AllocError>
         requires { listed_value self.old at ≡ None }

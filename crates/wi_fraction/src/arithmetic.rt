@@ -168,7 +168,8 @@ fn whole_product(negative: bool, a: u128, b: u128) -> Option<Fraction>
     number_at(negative, product(a, b)?, 1)
 }
 
-/// The same product, each numerator divided by what it has in common with the other denominator.
+/// The product of a/b and c/d, which are in lowest terms, with that sign. Each numerator is divided by what it has in
+/// common with the other denominator before they are multiplied.
 fn cancelled_product(negative: bool, a: u128, b: u128, c: u128, d: u128) -> Option<Fraction>
     requires first_above_zero { 0 < b }
     requires second_above_zero { 0 < d }

@@ -140,7 +140,7 @@ fn push_read(
     }
 }
 
-/// The same of the rectangles of a room.
+/// Puts ahead the rectangles of a room, up to one that has a cell, and answers whether none has it.
 fn push_room(
     room: &Option<Rectangles>,
     cell: Address,
@@ -152,7 +152,7 @@ fn push_room(
     push_areas(rectangles_in(room), cell, ahead)
 }
 
-/// The same of some rectangles.
+/// Puts ahead rectangles, each from its first cell on, up to one that has a cell, and answers whether none has it.
 fn push_areas(areas: &[Rect], cell: Address, ahead: &mut Ahead) -> Result<bool, AllocError>
     ensures { IfOk result (λ clear. IsTrue clear
         → HasAreas cell areas.now ahead.old.items ahead.new.items) }

@@ -72,7 +72,7 @@ fn enqueue_beyond<W: Watch>(
     Ok(())
 }
 
-/// The same of one cell.
+/// Puts a cell into a set, and at the end of a list if it is new in the set; one that is watched goes nowhere.
 fn enqueue_unwatched<W: Watch>(
     cell: Address,
     watch: &W,

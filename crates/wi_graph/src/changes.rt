@@ -57,7 +57,7 @@ fn lone_cell(changes: &[NewContent]) -> Option<Address>
     Some(change.0)
 }
 
-/// The same in a list.
+/// The cells of an edit as a list, in its order.
 pub(crate) fn changed_cells(
     alloc: Global,
     changes: &[NewContent],
@@ -90,7 +90,8 @@ pub(crate) fn rooms_of(
     next.into_iter().collect(alloc)
 }
 
-/// The same of one cell.
+/// What an edit of one cell brings beside what stands in the rooms. A cell that goes on reading what it reads isn't
+/// named.
 fn room_of(
     alloc: Global,
     rooms: &Rooms,
@@ -108,7 +109,8 @@ fn room_of(
     Ok(Coming::from_buf(alloc, [(cell, room)]))
 }
 
-/// The same of more cells, in any order.
+/// What an edit of more cells, in any order, brings beside what stands in the rooms, by the cells; of two for one cell
+/// the later counts. A cell that goes on reading what it reads isn't named.
 fn sorted_rooms(alloc: Global, rooms: &Rooms, changes: &[NewContent]) -> Result<Sorted, AllocError>
     ensures brings { IfOk result (λ next. Brings rooms.now next.entries changes.now) }
     ensures no_idle { IfOk result (λ next. HasNoIdle rooms.now next.entries) }

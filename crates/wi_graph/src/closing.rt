@@ -113,7 +113,8 @@ pub(crate) fn stands_apart(rooms: &Rooms, cyclic: &CellSet, next: &[Brought]) ->
     is_apart(rooms, cyclic, &next[0])
 }
 
-/// The same of what one cell gets.
+/// Whether a cell isn't circular, and is to read neither itself nor a formula. It takes a search among the rooms for
+/// each rectangle that is read.
 fn is_apart(rooms: &Rooms, cyclic: &CellSet, entry: &Brought) -> bool
     ensures open_cell { IsTrue result → contains nat_cmp cyclic.now entry.now.0 ≡ false }
     ensures reads { IsTrue result

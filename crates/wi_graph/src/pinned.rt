@@ -28,7 +28,7 @@ pub(crate) fn pinned_set(
     set_of(alloc, &pinned)
 }
 
-/// The same as a list.
+/// The cells of a cone that read a circular cell outside it, listed in row-major order.
 fn pinned_cells(
     alloc: Global,
     reads: &ReadsByCell,

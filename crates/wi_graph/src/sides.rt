@@ -40,7 +40,8 @@ pub(crate) fn cone_unless_apart(
     listed_unless_apart(alloc, rooms, readers, cyclic, next, &cells)
 }
 
-/// The same of the cells of an edit.
+/// The cone of some cells, which are those of an edit; none where one cell gets something and isn't circular, and what
+/// it is to read, at any remove, isn't circular and isn't the cell. The work is that of `cone_unless_apart`.
 fn listed_unless_apart(
     alloc: Global,
     rooms: &Rooms,

@@ -74,7 +74,8 @@ fn lone_unread(readers: &RangeIndex, changes: &[NewContent]) -> Option<Address>
     Some(change.0)
 }
 
-/// The same as `turns_of`, of several cells, or of one that is read.
+/// The cells that turn, circular or no longer so, once what is next is put in, of an edit of several cells, or of one
+/// that is read. The cone is searched for only if it is needed, as `turns_of` says.
 fn turns_sought(
     alloc: Global,
     rooms: &Rooms,
@@ -97,10 +98,11 @@ fn turns_sought(
     }
 }
 
-/// The same, where the cone is given in row-major order. Where what is next is for no circular cell and reads none, and no cycle is closed,
-/// the work grows with the count of the cone, and with the rows of what is next reads where the rectangle around the cone or that around
-/// the circular cells meets it, times the logarithms of their counts, and it takes no memory. Else it grows also with the cone and what its
-/// cells read, times logarithms.
+/// The cells that turn, circular or no longer so, once what is next is put in, where the edit's cone is given in
+/// row-major order. Where what is next is for no circular cell and reads none, and no cycle is closed, the work grows
+/// with the count of the cone, and with the rows of what is next reads where the rectangle around the cone or that
+/// around the circular cells meets it, times the logarithms of their counts, and it takes no memory. Else it grows also
+/// with the cone and what its cells read, times logarithms.
 #[inline(always)]
 fn turns_in(
     alloc: Global,
@@ -121,7 +123,8 @@ fn turns_in(
     turns_among(alloc, rooms, cyclic, next, &cone)
 }
 
-/// The same, where a cycle may be closed or opened, of a cone as a set. It stands apart, since most edits don't come to it.
+/// The cells that turn, circular or no longer so, once what is next is put in, where a cycle may be closed or opened;
+/// the edit's cone is given as a set. It stands apart, since most edits don't come to it.
 #[inline(never)]
 fn turns_among(
     alloc: Global,

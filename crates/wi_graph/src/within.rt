@@ -25,7 +25,9 @@ pub(crate) fn next_within(cells: &CellSet, area: Rect, from: Address) -> Option<
     next_in_part(cells.set(), part, from)
 }
 
-/// The same of a set or a list, wherever the rectangle lies.
+/// The first cell of a set or a list in a rectangle, at a cell or after it, in row-major order. The rectangle may lie
+/// anywhere. It takes a search, and one more for each row of the rectangle where a cell beside it comes before the one
+/// found.
 fn next_in_part<C: FindsFirst>(cells: &C, area: Rect, from: Address) -> Option<Address>
     requires { C.is_in_order cells.now }
     ensures found { IfSome result (IsAhead (C.cells cells.now) area from) }

@@ -20,7 +20,8 @@ pub fn compare(alloc: Global, left: &Value, right: &Value) -> Ordering
     }
 }
 
-/// The same for values of any kinds.
+/// The order of two values of any kinds, in which Empty counts as 0, the empty text or FALSE, as the other is. It
+/// stands apart, so that numbers are compared at once.
 #[inline(never)]
 fn compare_any(alloc: Global, left: &Value, right: &Value) -> Ordering
     ensures { result ≡ value_order (beside right.now left.now) (beside left.now right.now) }

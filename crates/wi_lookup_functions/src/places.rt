@@ -38,7 +38,8 @@ pub(crate) fn next_place<L: Lookup>(
     found
 }
 
-/// The same of one of the rectangles.
+/// The first place, after one that was passed where there is one, at which a cell of one rectangle is filled. Both
+/// places are told by cells of the first rectangle, which has the same size.
 fn next_in<L: Lookup>(
     first: Rect,
     area: Rect,

@@ -81,7 +81,8 @@ fn first_of(areas: &[Rect]) -> Option<Rect>
     areas.first().copied()
 }
 
-/// The same, of which one is the first.
+/// The sum of the products at all places of rectangles that have the size of the first. It goes from one place where a
+/// cell of any of them is filled to the next; a place is told by the first one's cell.
 fn sum_of_products<L: Lookup>(
     first: Rect,
     areas: &[Rect],

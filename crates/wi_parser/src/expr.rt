@@ -92,7 +92,7 @@ pub enum Expr {
 }
 
 impl Expr {
-    /// The same tree once more.
+    /// A copy of the tree. The work, and the memory that it takes, grow with its size.
     #[cycle(copying)]
     pub(crate) fn copy(&self, alloc: Global) -> Result<Expr, AllocError>
         ensures { IfOk result (λ e. tree_of e ≡ tree_of self.now) }

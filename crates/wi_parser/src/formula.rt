@@ -41,7 +41,7 @@ struct Lists {
 }
 
 impl Lists {
-    // The same lists once more.
+    // A copy of the inputs and the rectangles. The work, and the memory that it takes, grow with their counts.
     fn copy(&self, alloc: Global) -> Result<Lists, AllocError>
         ensures inputs { IfOk result (λ l. l.inputs.items ≡ self.now.inputs.items) }
         ensures rectangles { IfOk result (λ l. l.rectangles.items ≡ self.now.rectangles.items) }
@@ -105,7 +105,7 @@ impl Formula {
         &self.lists.rectangles
     }
 
-    /// The same formula once more.
+    /// A copy of the formula. The work, and the memory that it takes, grow with its tree.
     pub fn copy(&self, alloc: Global) -> Result<Formula, AllocError>
         ensures { IfOk result (λ f. f ≡ self.now) }
     {

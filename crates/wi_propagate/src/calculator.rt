@@ -55,7 +55,8 @@ pub trait Calculator {
         ensures same_evaluations { evaluated self.new ≡ evaluated self.old }
         ensures same_restarts { restarted self.new ≡ restarted self.old };
 
-    /// The same of changes that are lent. It takes the contents out of them, so they are not to be used again.
+    /// One edit of changes that are lent: puts contents in or takes them away, one after another, or refuses and leaves
+    /// the sheet as it was. It takes the contents out of the changes, so they are not to be used again.
     fn apply_slice(&mut self, changes: &mut [NewContent]) -> Result<(), StoreFault>
         ensures applied { Applies (applied (stored self.old) changes.old) result
             (stored self.old) (stored self.new) }

@@ -137,7 +137,7 @@ impl KeptCalculator {
         self.edit_cells(changes, cells.as_slice())
     }
 
-    // The same, where the cells of the changes are at hand.
+    // Does an edit whose cells are listed already, in the order of its changes.
     fn edit_cells(
         &mut self,
         changes: &mut [NewContent],
@@ -300,7 +300,7 @@ impl Calculator for KeptCalculator {
         self.edit(&mut changes)
     }
 
-    /// The same. The contents are taken out of the list.
+    /// One edit, at the cost of `apply`, of changes that the caller lends. The contents are taken out of the list.
     fn apply_slice(&mut self, changes: &mut [NewContent]) -> Result<(), StoreFault>
         ensures applied { Applies
             (applied self.old.stored changes.old) result self.old.stored self.new.stored }

@@ -76,7 +76,8 @@ impl Layer {
         !self.own.contains_key(&at) && self.own.len() >= MAX_REPLACEMENTS
     }
 
-    /// The same with a replacement put in.
+    /// A layer with this one's replacements and base scenario, and with a replacement put in, in the place of an
+    /// earlier one for its address. It copies all replacements.
     pub(crate) fn with(&self, alloc: Global, at: Address, value: Value) -> Result<Layer, AllocError>
         ensures own { IfOk result (λ l. own_of l
             ≡ with_replacements (own_of self.now) (record { at = at; value = value } ∷ [])) }
@@ -87,7 +88,8 @@ impl Layer {
         self.with_own(alloc, own)
     }
 
-    /// The same without the replacement for an address.
+    /// A layer with this one's replacements, but for the one for an address, and with its base scenario. It copies all
+    /// replacements.
     pub(crate) fn without(&self, alloc: Global, at: Address) -> Result<Layer, AllocError>
         ensures own { IfOk result (λ l. own_of l ≡ without_replacement (own_of self.now) at) }
         ensures base { IfOk result (λ l. base_of l ≡ base_of self.now) }
@@ -97,7 +99,7 @@ impl Layer {
         self.with_own(alloc, own)
     }
 
-    /// The same with other replacements of its own.
+    /// A layer with these replacements, and with this one's base scenario.
     fn with_own(&self, alloc: Global, own: ValueMap) -> Result<Layer, AllocError>
         ensures own { IfOk result (λ l. l.own.value ≡ own) }
         ensures base { IfOk result (λ l. base_of l ≡ base_of self.now) }
@@ -107,7 +109,7 @@ impl Layer {
         Ok(Layer { own, base })
     }
 
-    /// The same with another base scenario, or with none.
+    /// A layer with this one's replacements, which both share, and with another base scenario, or with none.
     pub(crate) fn based_on(&self, alloc: Global, base: Option<&str>) -> Result<Layer, AllocError>
         ensures own { IfOk result (λ l. own_of l ≡ own_of self.now) }
         ensures base { IfOk result (λ l. base_of l ≡ option_copied base.entry) }

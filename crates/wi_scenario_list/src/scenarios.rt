@@ -61,8 +61,8 @@ impl Scenarios {
         }
     }
 
-    /// The same scenarios once more. The work grows with the count of scenarios: what each holds is shared, and a later change
-    /// of one copy touches that one alone.
+    /// A copy of the scenarios. The work grows with their count: what each holds is shared, and a later change of one
+    /// copy touches that one alone.
     pub fn copy(&self) -> Result<Scenarios, AllocError>
         ensures { IfOk result (λ s. s ≡ self.now) }
     {

@@ -97,7 +97,7 @@ abbrev pub Serves : (Answer → Type 0) → Result (Unit {0}) Refusal → State 
 Serves IsAnswer (Ok _) old new records = IsAnswer (Ok (new, records))
 Serves IsAnswer (Err e) old new records = MayRefuse e IsAnswer × (new ≡ old) × (records ≡ [])
 
--- the same where data lines came before: "out of memory" may stand in place of any answer
+-- behind data lines "out of memory" may stand in place of any answer, another refusal only as the answer
 abbrev pub MayRefuseData : Refusal → (Answer → Type 0) → Type 0
 MayRefuseData Memory IsAnswer = Unit {0}
 MayRefuseData e IsAnswer = IsAnswer (Err e)

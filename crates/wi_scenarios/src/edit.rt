@@ -54,7 +54,8 @@ pub(crate) fn apply_edit<C: Calculator>(
     edit_caught_up(alloc, calculator, desk, named, contents, force)
 }
 
-/// The same, once the log has noted for the current session who edited which cell, so that it takes one look whether a cell is stale.
+/// Does an edit or refuses it, as `apply_edit` does, once the log has noted for the current session who edited which
+/// cell, so that it takes one look whether a cell is stale.
 fn edit_caught_up<C: Calculator>(
     alloc: Global,
     calculator: &mut C,
@@ -92,7 +93,7 @@ fn edit_caught_up<C: Calculator>(
     }
 }
 
-/// The same for an edit that names one rectangle.
+/// Does an edit that names one rectangle, or refuses it: as `apply_edit` does, and at its cost.
 pub(crate) fn edit_area<C: Calculator>(
     alloc: Global,
     calculator: &mut C,

@@ -43,8 +43,9 @@ pub(crate) fn make_room_between<C: Calculator>(
     sessions.make_room(i, &marked)
 }
 
-/// The same for a session's scenario, where others take the place of all. All that it puts in is listed, as it was and as it will be, also
-/// where nothing of it changes.
+/// Makes room among a session's pending cells for those that may show something else in its scenario, where other
+/// scenarios take the place of all. On an error some vacant rooms may be left. All that its scenario puts in is listed,
+/// as it was and as it will be, also where nothing of it changes.
 fn make_room_for<C: Calculator>(
     alloc: Global,
     calculator: &C,
@@ -67,7 +68,8 @@ fn make_room_for<C: Calculator>(
     make_room_between(alloc, calculator, sessions, i, &first, &second)
 }
 
-/// The same for each session.
+/// Makes room among the pending cells of each session for those that may show something else in its scenario, where
+/// other scenarios take the place of all. On an error some vacant rooms may be left.
 fn make_room_for_each<C: Calculator>(
     alloc: Global,
     calculator: &C,

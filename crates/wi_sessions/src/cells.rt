@@ -301,7 +301,7 @@ pub(crate) fn put_in_order(cells: &mut Vec<Address>)
     }
 }
 
-/// The same by a sort.
+/// Sorts cells into row-major order, and keeps each once.
 fn sort(cells: &mut Vec<Address>)
     ensures order { IsStrictlyIncreasing cells.new.items }
     ensures same { (c : ℕ) → is_one_of cells.new.items c ≡ is_one_of cells.old.items c }

@@ -119,7 +119,9 @@ impl Pending {
         }
     }
 
-    /// The same for each session, in one walk through the cells.
+    /// Makes room, for each session, for each of the cells that isn't pending for it, in one walk through the cells;
+    /// none is pending yet. On an error the rooms of all go. For each cell it costs what `make_room` does, however many
+    /// sessions there are.
     pub(crate) fn make_room_all(&mut self, cells: &[Address]) -> Result<(), AllocError>
         ensures { GetRooms cells.now result self.old self.new }
     {

@@ -215,8 +215,9 @@ impl Sessions {
         self.pending.make_room(i, cells)
     }
 
-    /// The same for each session, in one walk through the cells. For each cell it costs what `make_room` does, two look-ups in a map
-    /// and putting it in, however many sessions there are.
+    /// Makes room, for each session, for each of the cells that isn't pending for it, in one walk through the cells;
+    /// none is pending yet. On an error the vacant rooms of all go. For each cell it costs what `make_room` does, two
+    /// look-ups in a map and putting it in, however many sessions there are.
     pub fn make_room_all(&mut self, cells: &[Address]) -> Result<(), AllocError>
         ensures sessions { self.new.sessions ≡ self.old.sessions }
         ensures pending { self.new.pending ≡ self.old.pending }

@@ -138,7 +138,7 @@ pub(crate) fn track(
     Ok(())
 }
 
-/// The same, where the list begins anew.
+/// Tracks changed cells in a list that begins anew with them; who hasn't read the old list has to look anywhere.
 fn track_anew(
     changed: &mut Vec<Address>,
     unread: &mut Vec<Unread>,

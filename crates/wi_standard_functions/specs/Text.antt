@@ -44,7 +44,8 @@ exact_value t u = do s ← to_text t; r ← to_text u; Logical (bytes_eq s r)
 abbrev pub first_position : List ℕ → List ℕ → Option ℕ
 first_position sought cs = find (λ i. starts_with nat_eq (drop i cs) sought) (range_with_len 0 (length cs + 1))
 
--- the same among the characters from this position on; none where that is beyond the place behind the last
+-- the first position, from 0, where the characters stand in others, at this one or behind it; none where this one is
+-- beyond the place behind the last
 abbrev pub position_from : ℕ → List ℕ → List ℕ → Option ℕ
 position_from from sought cs = if nat_le from (length cs) then option_map (λ i. from + i) (first_position sought (drop from cs)) else None
 

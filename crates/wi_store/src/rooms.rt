@@ -22,7 +22,8 @@ pub(crate) fn room_for(alloc: Global, change: &mut NewContent) -> Result<NewRoom
     Ok((change.0, Room::new(alloc, change.1.take())?))
 }
 
-/// The same of each of some changes.
+/// The rooms that some changes bring, in their order, by their contents, which it takes; the constant Empty is no
+/// content.
 pub(crate) fn prepare(alloc: Global, changes: &mut [NewContent]) -> Result<Vec<NewRoom>, AllocError>
     ensures { IfOk result (λ made. made.items ≡ map change_without_empty changes.old) }
 {

@@ -127,7 +127,8 @@ impl Store {
         self.apply_slice(&mut changes)
     }
 
-    /// The same of changes that are lent. It takes the contents out of them, so they are not to be used again.
+    /// One edit of changes that are lent, which gives each named cell a content or none, with the errors of `apply` and
+    /// at its cost. It takes the contents out of the changes, so they are not to be used again.
     pub fn apply_slice(&mut self, changes: &mut [NewContent]) -> Result<(), StoreFault>
         ensures { Applies (applied self.old changes.old) result self.old self.new }
     {
@@ -139,7 +140,8 @@ impl Store {
         self.bring(&mut brought)
     }
 
-    /// The same of the rooms that the changes bring.
+    /// One edit, by the rooms that its changes bring: each named cell gets its room, or loses its own where that one is
+    /// vacant. Of two for one cell the later counts. On an error all is as before.
     fn bring(&mut self, brought: &mut [NewRoom]) -> Result<(), StoreFault>
         ensures { Applies (accepted self.old brought.old) result self.old self.new }
     {
@@ -177,8 +179,9 @@ impl Store {
         self.rooms.next_in(area, from)
     }
 
-    /// The same with what stands there. One search among the tiles of 16 rows for these, and if more than one of them lie in the
-    /// rectangle, one step for each in each row up to it; rows where nothing stands are passed at once.
+    /// The first occupied cell of a rectangle, in row-major order, at a cell or after it, with what stands there. One
+    /// search among the tiles of 16 rows for these, and if more than one of them lie in the rectangle, one step for
+    /// each in each row up to it; rows where nothing stands are passed at once.
     pub fn next_content(&self, area: Rect, from: Address) -> Option<(Address, &Content)>
         ensures cell { option_map (λ x. x.0) result
             ≡ find (λ a. nat_le from a) (filter (is_within area) (keys_of self.now.sheet)) }

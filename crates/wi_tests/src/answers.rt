@@ -94,7 +94,7 @@ struct Answer {
     at_once: bool,
 }
 
-// The same, asked for again where memory is refused; then there is memory.
+// What `ask` answers, and whether at once. Where memory is refused, it asks again; then there is memory.
 fn asked<C: Calculator>(
     rt: &impl Abort,
     calculator: &mut C,

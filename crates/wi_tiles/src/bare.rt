@@ -61,7 +61,8 @@ fn is_bare<V>(page: &Page<V>, index: usize, area: Rect, mask: u64) -> bool
     }
 }
 
-/// The same of a band's tiles. The bits of a rectangle's last columns are told.
+/// Whether a rectangle has nothing among a band's tiles; it may not know. The bits of the rectangle's last columns are
+/// told.
 fn are_bare<V>(parts: &[(u32, Tile<V>)], area: Rect, mask: u64) -> bool
     requires rises { Rises parts.now }
     requires mask { HasLast area mask }

@@ -54,7 +54,8 @@ pub(crate) fn turn_on<'a, V>(
     }
 }
 
-/// The same, where none are at hand: one search for each band.
+/// Turns to the next tile of which a rectangle has something, from a row and a column on, with no tiles at hand: it
+/// takes one search for each band.
 fn turn_below<'a, V>(pages: &'a Pages<V>, area: Rect, from: u32, side: u32) -> Option<Turn<'a, V>>
     requires top { row_of area.first ≤ from }
     requires sheet { from ≤ rows }
@@ -79,7 +80,8 @@ fn turn_below<'a, V>(pages: &'a Pages<V>, area: Rect, from: u32, side: u32) -> O
     None
 }
 
-/// The same within the rows of a band; else the row to go on with.
+/// Turns to the next tile of which a rectangle has something, from a row and a column on, within the rows of the row's
+/// band. Where there is none, it tells the row to go on with.
 fn turn_into<'a, V>(
     pages: &'a Pages<V>,
     area: Rect,

@@ -47,7 +47,7 @@ fn line_of(low: u32, high: u32) -> u64
     (15 >> (4 - high)) & (15 << low)
 }
 
-/// The same bits in each line.
+/// The bits of one line, once in each of the 16 lines.
 fn lines_of(line: u64) -> u64
     requires { line ≤ 15 }
     ensures { result ≡ lines_of line }

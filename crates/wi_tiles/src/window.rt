@@ -278,7 +278,8 @@ fn reach_up<V, T: Places<V> + Drop>(
     Ok(())
 }
 
-/// The same, where it doesn't stand. Room for all is taken at once.
+/// Puts parts with nothing behind the last, until a part stands. Room for all is taken at once. If memory runs out,
+/// each place has what it had.
 #[inline(never)]
 fn lengthen<V, T: Places<V> + Drop>(
     first: usize,

@@ -48,7 +48,7 @@ impl Text {
         self.content.as_str()
     }
 
-    /// The same text once more.
+    /// A copy of the text. The work, and the memory that it takes, grow with its length.
     pub fn copy(&self, alloc: Global) -> Result<Text, AllocError>
         ensures { IfOk result (λ t. t ≡ self.now) }
     {

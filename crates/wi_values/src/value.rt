@@ -55,7 +55,8 @@ pub enum Value {
 }
 
 impl Value {
-    /// The same value once more.
+    /// A copy of the value. The work, and the memory that it takes, grow with a text's length; no other kind takes
+    /// memory.
     pub fn copy(&self, alloc: Global) -> Result<Value, AllocError>
         ensures { IfOk result (λ v. v ≡ self.now) }
     {

@@ -10,7 +10,7 @@ use wi_values::{Address, Replacement, Value};
 /// Values by addresses.
 type ValueMap = BTreeMap<Address, Value>;
 
-/// The same replacement once more.
+/// A copy of a replacement, with a copy of its value.
 pub(crate) fn copied(alloc: Global, replacement: &Replacement) -> Result<Replacement, AllocError>
     ensures { IfOk result (λ r. r ≡ replacement.now) }
 {

@@ -46,7 +46,8 @@ pub(crate) fn part_of(replacements: &[Replacement], cells: &[Address], last: &[R
     }
 }
 
-/// The same, where each replacement is searched for among the cells.
+/// The replacements that are of one of the cells, compared with the last part. Each replacement is searched for among
+/// the cells.
 #[inline(always)]
 fn part_by_replacements(
     replacements: &[Replacement],
@@ -73,7 +74,8 @@ fn part_by_replacements(
     }
 }
 
-/// The same, where each cell is searched for among the replacements.
+/// The replacements that are of one of the cells, compared with the last part. Each cell is searched for among the
+/// replacements.
 fn part_by_cells(replacements: &[Replacement], cells: &[Address], last: &[Replacement]) -> Part
     requires { IsInOrder replacements.now }
     ensures count { result.count ≡ length (picked replacements.now cells.now) }
@@ -112,7 +114,8 @@ pub(crate) fn copies_of(
     }
 }
 
-/// The same, where each replacement is searched for among the cells.
+/// Copies of the replacements that are of one of the cells, in a list with room for their count. Each replacement is
+/// searched for among the cells.
 fn copies_by_replacements(
     alloc: Global,
     count: usize,
@@ -132,7 +135,8 @@ fn copies_by_replacements(
     Ok(kept)
 }
 
-/// The same, where each cell is searched for among the replacements.
+/// Copies of the replacements that are of one of the cells, in a list with room for their count. Each cell is searched
+/// for among the replacements.
 fn copies_by_cells(
     alloc: Global,
     count: usize,

@@ -91,7 +91,7 @@ impl World {
         }
     }
 
-    /// The same replacements once more, shared: whatever their count, it takes the same work, and no memory.
+    /// A copy that shares the replacements: whatever their count, it takes the same work, and no memory.
     pub fn copy(&self) -> Result<World, AllocError>
         ensures { IfOk result (λ w. w ≡ self.now) }
     {
@@ -133,7 +133,8 @@ impl World {
         World::of(alloc, one)
     }
 
-    /// The same as `with`, however many there are.
+    /// The replacements with others put in, however many there are, each in the place of an earlier one for its
+    /// address. Of two others for one address the later counts. All are copied.
     fn with_all(&self, others: &[Replacement]) -> Result<World, AllocError>
         ensures list { IfOk result (λ w. as_map w ≡ overridden (as_map self.now) others.now) }
         ensures each { IfOk result (λ w.

@@ -37,7 +37,7 @@ csv_operands force operands =
 abbrev pub csv_named : Bool → List ℕ → List ℕ → Option CsvLine
 csv_named force name operands = if bytes_eq name (codes "csv") then csv_operands force operands else None
 
--- the same, where `force` may stand before `csv`
+-- an edit of this name, where it is `csv`, or where it is `force` and `csv` comes behind it
 abbrev pub csv_by_name : List ℕ → List ℕ → Option CsvLine
 csv_by_name name operands =
     if bytes_eq name (codes "force") then csv_named true (first_word operands) (after_word operands) else csv_named false name operands

@@ -54,7 +54,7 @@ of_name None command = Refused BadCommand
 abbrev pub only_name : List ℕ → Option (List ℕ)
 only_name words = if is_all_spaces (after_word words) then read_name (first_word words) else None
 
--- the same, or no name where there is no word
+-- the name that is the only word, or no name where there is no word
 abbrev pub name_or_none : List ℕ → Option (Option (List ℕ))
 name_or_none words = if is_all_spaces words then Some None else option_map (λ name. Some name) (only_name words)
 

@@ -36,7 +36,7 @@ abbrev pub IsNameOf : Option (List ℕ) → Result Name Refusal → Type 0
 IsNameOf o (Ok name) = o ≡ Some (bytes_of name)
 IsNameOf o (Err e) = (o ≡ None) × (e ≡ BadCommand)
 
--- the same, where no name may stand too
+-- a name that was read, or none, where none may stand
 abbrev pub IsNameOrNoneOf : Option (Option (List ℕ)) → Result (Option Name) Refusal → Type 0
 IsNameOrNoneOf o (Ok name) = o ≡ Some (option_map bytes_of name)
 IsNameOrNoneOf o (Err e) = (o ≡ None) × (e ≡ BadCommand)

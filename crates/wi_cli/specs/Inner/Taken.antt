@@ -20,7 +20,8 @@ pub record AreBlocks (ls : List (List ℕ)) (bs : List Block) : Type 0 where
   pub first : (more : List (List ℕ)) → blocks (ls ++ more) ≡ bs ++ blocks more
   pub complete : filter is_complete bs ≡ bs
 
--- the same, or of the last lines of a script
+-- lines that are these complete blocks, whatever comes after them; where `false` stands, the last lines of a script,
+-- which are these blocks
 abbrev pub AreBlocksOf : Bool → List (List ℕ) → List Block → Type 0
 AreBlocksOf true ls bs = AreBlocks ls bs
 AreBlocksOf false ls bs = blocks ls ≡ bs

@@ -10,7 +10,7 @@ use Rattle.wi_arguments.specs.Assignment.{addresses}
 use Rattle.wi_engine.specs.declared.lists.Lists.{Lists}
 use Rattle.wi_engine.specs.declared.lists.FoundWhatIf.{FoundWhatIf}
 
--- the same inputs, each with the same replacement cell
+-- both have the same inputs, each with the same replacement cell
 abbrev pub same_pairs : List (ℕ × ℕ) → List (ℕ × ℕ) → Bool
 same_pairs [] [] = true
 same_pairs [] (q ∷ qs) = false

@@ -39,7 +39,7 @@ pub record FrameCounts (s : Sheet) (f : Frame) (before after : Counts) (done : B
   pub rises : NeverFall before after
   pub within : NeverFall after (plus before (frame_cost s f done))
 
--- the same frame with the same values, which waits for what it lacks, where that is done
+-- a frame keeps its key, its formula and its values, and waits for what it lacks, where that is done
 pub record FrameWaits (s : Sheet) (before after : Frame) (done : Bool) : Type 0 where
   pub key : after.key ≡ before.key
   pub formula : after.formula.now ≡ before.formula.now
@@ -56,7 +56,7 @@ pub record IsWorldWith (s : Sheet) (m : MemoState) (w : List Replacement) (pairs
   pub world : v ≡ with_what_if s w (map addresses (map pair_of pairs))
   pub settled : KeepsFound m → All (λ p. IsSettled s m.kept w p.replacement.at) pairs
 
--- the same frame, which has taken in the value of a key, where that is done
+-- a frame keeps its key, and has taken in the value of another key, where that is done
 pub record FrameTakes (s : Sheet) (k : Key) (before after : Frame) (done : Bool) : Type 0 where
   pub key : after.key ≡ before.key
   pub frame : done ≡ true → (m : MemoState) → IsFrame s m before → IsFrame s m after

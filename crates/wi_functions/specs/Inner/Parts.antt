@@ -43,6 +43,6 @@ module _ {K : Type 0} (known_cell : K → ℕ → Option Value) (known_what_if :
       (λ r. ByAll known_cell known_what_if known (λ a. seen a r ≡ part.means a))
       (λ s. IfMissing s (IsWanted known_cell known_what_if known part.asking))
 
-  -- the same of a value, which is seen as it is
+  -- an evaluation gives the value that the part means, or stops, as EvaluatesAs says; a value is seen as it is
   abbrev pub Evaluates : Result Value (Stop Want) → Part Value → Type 0
   Evaluates result part = EvaluatesAs result (λ a v. v) part

@@ -24,7 +24,7 @@ abbrev pub cell_along : Axis → Area → ℕ → ℕ → ℕ
 cell_along Rows r line i = place (row_of r.first + line) (column_of r.first + i)
 cell_along Columns r line i = place (row_of r.first + i) (column_of r.first + line)
 
--- ---- the same of what stands there
+-- ---- the lines of a region, which is what stands in a rectangle
 
 abbrev pub lines_in : Axis → Region → ℕ
 lines_in Rows = λ r. r.height

@@ -103,7 +103,7 @@ AreWhole pieces = IsIndexed (bag_of pieces) pieces × AreCounted (bag_of pieces)
 abbrev pub KeepsOtherPieces : Numbered → List Piece → List Piece → Type 0
 KeepsOtherPieces m old new = (q : Piece) → is_piece (blocks_of m.pair) m q ≡ false → has_piece new q ≡ has_piece old q
 
--- the same pieces, and those of the pair m at some blocks: whatever is added up over them
+-- the pieces that were there, and those of the pair m at some blocks: whatever is added up over them
 abbrev pub Gains : List Block → Numbered → List Piece → List Piece → Type 0
 Gains xs m old new = (f : Piece → ℕ) → sum_by f new ≡ sum_by f old + sum_by (λ x. f (x, m)) xs
 

@@ -39,7 +39,7 @@ pub record HasRoom (marked : Sheet → List ℕ → ℕ → Bool) (sheet : Sheet
   pub further : (a c : ℕ) → is_one_of vacant a ≡ true → marked sheet (a ∷ []) c ≡ true → (is_one_of pending c || is_one_of vacant c) ≡ true
   pub others : (a : ℕ) → is_one_of pending a ≡ false → is_one_of vacant a ≡ false → shown sheet before a ≡ shown sheet after a
 
--- the same of the i-th session, where other scenarios take the place of all
+-- there is room for the cells of the i-th session, as HasRoom says, where other scenarios take the place of all
 abbrev pub HasRoomFor : (Sheet → List ℕ → ℕ → Bool) → Sheet → List Scenario → List Scenario → Roster → ℕ → Type 0
 HasRoomFor marked sheet before after r i =
     let name = (session_at r i).scenario in
