@@ -67,7 +67,7 @@ fn turn_below<'a, V>(pages: &'a Pages<V>, area: Rect, from: u32, side: u32) -> O
     let last = area.last().row();
     let mut row = from;
     let mut column = side;
-    'bands: while row <= last {
+    while row <= last {
         match turn_into(pages, area, row, column) {
             Ok(turn) => return Some(turn),
             Err(next) => {
