@@ -54,7 +54,9 @@ pub(crate) fn turn_on<'a, V>(
     }
 }
 
-/// The same, where none are at hand: one search for each band.
+/// Turns to the next tile of which a rectangle has something, from a row and a column on, where no tiles are at hand:
+/// one search for each band. It is never inlined, so that a turn to the tile beside takes little.
+#[inline(never)]
 fn turn_below<'a, V>(pages: &'a Pages<V>, area: Rect, from: u32, side: u32) -> Option<Turn<'a, V>>
     requires top { row_of area.first ≤ from }
     requires sheet { from ≤ rows }
