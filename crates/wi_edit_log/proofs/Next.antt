@@ -1,22 +1,19 @@
 -- The cells of a rectangle one after another, in row-major order.
-use Rattle.wi_edit_log.proofs.Words.{◌≡◌, ◌∙◌, ℕ, ◌==◌, ◌≤◌, ◌<◌, ◌⊎◌, inl, inr, Bool, true, false, ◌||◌, ◌&&◌, Option, Some, None, IfSome, refl, ap, sym, subst, arith, nat_lt, then_some, and_from, and_parts, both_ways, cases_eq, cases_lt, eq-eqb, eqb-true, le-ltb, lt-ltb, or_cases, or_left, or_right, one_truth, Area, is_within, fewer_places, places_left, within_between, within_from, within_parts, IsAtOrBefore, IsFirst, is_after}
+use Rattle.wi_edit_log.proofs.Words.{◌≡◌, ◌∙◌, ℕ, ◌==◌, ◌≤◌, ◌<◌, ◌⊎◌, inl, inr, Bool, true, false, ◌||◌, ◌&&◌, Option, Some, None, IfSome, refl, ap, sym, subst, arith, nat_lt, and_from, and_parts, both_ways, cases_eq, cases_lt, eq-eqb, eqb-true, le-ltb, lt-ltb, or_cases, or_left, or_right, one_truth, Area, is_within, fewer_places, places_left, within_between, within_from, IsAtOrBefore, IsFirst, is_after}
 use Rattle.std.proofs.lemmas.Bool.{ltb-true}
+use Rattle.wi_values.specs.Address.{height, width}
 
 -- ---- the first
 
-first_within : (r : Area) (a : ℕ) → is_within r a ≡ true → is_within r r.first ≡ true
-first_within r a h =
-    let p = within_parts r a h in
-    within_from r r.first (omega arith) (omega (arith, p.0, p.1)) (omega arith) (omega (arith, p.2, p.3))
+within_itself : (r : Area) → 0 < height r → 0 < width r → is_within r r.first ≡ true
+within_itself r tall wide = within_from r r.first (omega arith) (omega (arith, tall)) (omega arith) (omega (arith, wide))
 
-pub first_is : (r : Area) (at x : ℕ) (b : Bool) (o : Option ℕ) → at ≡ r.first → x ≡ r.first → b ≡ is_within r at → o ≡ then_some b x → IsFirst (is_within r) o
-first_is r at x b o e f w t =
-    let by_notes : o ≡ then_some (is_within r r.first) r.first = t ∙ ap (λ c. then_some c x) (w ∙ ap (is_within r) e) ∙ ap (then_some (is_within r r.first)) f in
-    subst (IsFirst (is_within r)) (sym by_notes) (by (is_within r r.first) refl)
-  where
-    by : (c : Bool) → is_within r r.first ≡ c → IsFirst (is_within r) (then_some c r.first)
-    by true h = record { passes = h; least = λ a k. (within_between r a k).0 }
-    by false h = record { passes = tt; least = λ a k. both_ways (is_within r r.first) h (first_within r a k) }
+first_of : (r : Area) → 0 < height r → 0 < width r → IsFirst (is_within r) (Some r.first)
+first_of r tall wide = record { passes = within_itself r tall wide; least = λ a k. (within_between r a k).0 }
+
+pub first_is : (r : Area) (at h w : ℕ) → at ≡ r.first → h ≡ height r → 0 < h → w ≡ width r → 0 < w → IsFirst (is_within r) (Some at)
+first_is r at h w e tall some wide more =
+    subst (λ a. IsFirst (is_within r) (Some a)) (sym e) (first_of r (subst (λ n. 0 < n) tall some) (subst (λ n. 0 < n) wide more))
 
 -- ---- those before the one ahead
 

@@ -120,7 +120,7 @@ impl Noted {
     fn first_noted_stale_in(&self, area: Rect, session: u32, since: usize) -> Option<Address>
         ensures { IsFirst (is_noted_stale_in area self.now.notes.entries session since) result }
     {
-        let mut ahead = first_cell(area);
+        let mut ahead = Some(first_cell(area));
         while let Some(at) = ahead {
             if self.is_noted_stale(at, session, since) {
                 return Some(at);
@@ -207,7 +207,7 @@ fn note_area(notes: &mut Notes, area: Rect, session: u32, count: u32) -> Result<
     ensures { OnOk result
         (NotesMore (is_within area) session count notes.old.entries notes.new.entries) }
 {
-    let mut ahead = first_cell(area);
+    let mut ahead = Some(first_cell(area));
     while let Some(at) = ahead {
         note(notes, at, session, count)?;
         ahead = cell_after(area, at);

@@ -21,7 +21,7 @@ pub(crate) fn referred(expr: &Expr) -> Option<Rect>
     ensures { result ≡ formulas.referred (tree_of expr.now) }
 {
     match expr {
-        Expr::Cell(reference) => Some(Rect::new(reference.at, reference.at)),
+        Expr::Cell(reference) => Some(Rect::of(reference.at)),
         Expr::Rectangle(corners) => Some(corners.area()),
         Expr::Parenthesized(inner) => referred(inner),
         _ => None,

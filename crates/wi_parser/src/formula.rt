@@ -236,5 +236,5 @@ fn push_area(rectangles: &mut Rectangles, area: Rect) -> Result<(), AllocError>
 fn cell_area(at: Address) -> Rect
     ensures { result ≡ cell_area at }
 {
-    Rect::new(at, at)
+    Rect::of(at)
 }

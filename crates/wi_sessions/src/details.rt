@@ -1,4 +1,4 @@
-//! What a session holds beside its name.
+//! What a session holds beside its name, and what changes it.
 
 ghost use Rattle.std.specs.Prelude.{◌≡◌, ◌≢◌, ℕ, List, [], OnOk, OnErr, string_bytes};
 ghost use Rattle.std.specs.Option.{option_map};
@@ -8,7 +8,7 @@ ghost use Rattle.wi_sessions.specs.Inner.Details.{with_name};
 use crate::picture::{Change, Picture};
 use std::alloc::{AllocError, Global};
 
-/// What a session holds beside its name.
+/// The scenario that a session uses, if any, what it was last shown, and how many edits there were then.
 #[derive(Drop)]
 pub(crate) struct Details {
     pub(crate) scenario: Option<String>,
@@ -17,7 +17,7 @@ pub(crate) struct Details {
 }
 
 impl Details {
-    /// What a new session holds. Takes no memory.
+    /// No scenario, and nothing shown yet. Takes no memory.
     pub(crate) fn new(alloc: Global) -> Details
         ensures { (name : List ℕ) → with_name name result ≡ new_session name }
     {
@@ -28,7 +28,7 @@ impl Details {
         }
     }
 
-    /// Uses a scenario, or the sheet as it stands.
+    /// From now on the session uses this scenario; with None, the sheet as it stands.
     pub(crate) fn use_scenario(&mut self, scenario: Option<String>)
         ensures { (name : List ℕ) → with_name name self.new
             ≡ using_scenario (with_name name self.old) (option_map string_bytes scenario) }

@@ -1,4 +1,4 @@
-//! The contents of a sheet, within limits, and the log of edits.
+//! The contents of a sheet, within limits. The log of edits, which is handed on, is that of `wi_edit_log`.
 #![tactic(auto)]
 
 mod contents;

@@ -1,5 +1,5 @@
 -- A walk through a rectangle, tile by tile.
-use Rattle.wi_tiles.proofs.Words.{◌≡◌, ℕ, ◌+◌, ◌*◌, ◌/◌, ◌%◌, ◌<◌, ◌≤◌, List, [], ◌∷◌, Option, Some, None, sym, ap, arith, ◌∙◌, ⊎_elim, zero, suc, refl, cond, subst, true, false, Bool, ◌||◌, ◌==◌, nat_le, filter, IsSome, IfSome, IfNone, Bor, bit_at, cases_eq, cases_lt, and_parts, and_from, leb-true, le-leb, bit_at-zero, eqb-true, eq-eqb, ◌≢◌, ◌⊎◌, Area, place, row_of, column_of, is_within, Pages, Band, at_cell, is_ahead, with_entry, entries_from, entries_of, cells, slot, in_page, band_at, in_band, IsNext, IsStart, at_part, part_from, find as find_part, bit_of, cell_in, in_band_tile, tile_at, in_tile, is_left, is_pending, IsRest, IsFirstLeft, IsTurn, false_from_ne_true, or_cases, or_left, or_right}
+use Rattle.wi_tiles.proofs.Words.{◌≡◌, ℕ, ◌+◌, ◌*◌, ◌/◌, ◌%◌, ◌<◌, ◌≤◌, List, [], ◌∷◌, Option, Some, None, sym, ap, arith, ◌∙◌, ⊎_elim, zero, suc, refl, cond, subst, true, false, Bool, ◌||◌, ◌==◌, nat_le, filter, IsSome, IfNone, Bor, bit_at, cases_eq, cases_lt, and_parts, and_from, leb-true, le-leb, bit_at-zero, eqb-true, eq-eqb, ◌≢◌, ◌⊎◌, Area, place, row_of, column_of, is_within, Pages, Band, at_cell, is_ahead, with_entry, entries_from, entries_of, cells, slot, in_page, band_at, in_band, IsNext, IsStart, at_part, part_from, find as find_part, bit_of, cell_in, in_band_tile, tile_at, in_tile, is_left, is_pending, IsRest, IsFirstLeft, IsTurn, false_from_ne_true, or_cases, or_left, or_right}
 use Rattle.std.proofs.Common.{inl, inr}
 use Rattle.wi_tiles.proofs.MapLemmas.{below, above}
 use Rattle.wi_tiles.proofs.NextLemmas.{row_cell, is_inside}
@@ -70,11 +70,6 @@ same_test true true f g = refl
 same_test true false f g = f refl
 same_test false true f g = sym (g refl)
 same_test false false f g = refl
-
--- what holds anyway
-pub whatever : {X : Type 0} {P : Type 0} (o : Option X) → P → IfSome o (λ _. P)
-whatever None p = tt
-whatever (Some x) p = p
 
 pub none_then : {X : Type 0} {P Q : Type 0} (o : Option X) → IfNone o P → (P → Q) → IfNone o Q
 none_then None p f = f p

@@ -72,7 +72,7 @@ pub(crate) fn turn_beside<'a, V>(
     let mut row = from;
     let mut column = side;
     let mut place = first;
-    'rows: while row < below {
+    while row < below {
         match next_tile(tiles, area, row % 16, column, place) {
             Some(next) => {
                 let part = &tiles[next.0];
@@ -115,7 +115,7 @@ fn next_tile<V>(
         → cell tiles.now line k ≡ None) }
 {
     let mut place = first;
-    'tiles: while place < tiles.len() {
+    while place < tiles.len() {
         let part = &tiles[place];
         let left = part.1.bits_of(bits_in(area, part.0, column, line, line));
         if left != 0 {

@@ -41,7 +41,7 @@ fn past_bands<V>(page: &Page<V>, area: Rect, from: u32) -> u32
     }
     let mask = bits_in(area, area.last().column() / 4, area.first().column(), 0, 15);
     let mut index = from;
-    'bands: while index < 256 {
+    while index < 256 {
         if !is_bare(page, index as usize, area, mask) {
             return index;
         }

@@ -54,8 +54,9 @@ pub(crate) fn turn_on<'a, V>(
     }
 }
 
-/// Turns to the next tile of which a rectangle has something, from a row and a column on, with no tiles at hand: it
-/// takes one search for each band.
+/// Turns to the next tile of which a rectangle has something, from a row and a column on, where no tiles are at hand:
+/// one search for each band. It is never inlined, so that a turn to the tile beside takes little.
+#[inline(never)]
 fn turn_below<'a, V>(pages: &'a Pages<V>, area: Rect, from: u32, side: u32) -> Option<Turn<'a, V>>
     requires top { row_of area.first ≤ from }
     requires sheet { from ≤ rows }
@@ -68,7 +69,7 @@ fn turn_below<'a, V>(pages: &'a Pages<V>, area: Rect, from: u32, side: u32) -> O
     let last = area.last().row();
     let mut row = from;
     let mut column = side;
-    'bands: while row <= last {
+    while row <= last {
         match turn_into(pages, area, row, column) {
             Ok(turn) => return Some(turn),
             Err(next) => {
@@ -80,8 +81,7 @@ fn turn_below<'a, V>(pages: &'a Pages<V>, area: Rect, from: u32, side: u32) -> O
     None
 }
 
-/// Turns to the next tile of which a rectangle has something, from a row and a column on, within the rows of the row's
-/// band. Where there is none, it tells the row to go on with.
+/// The same within the rows of a band; else the row to go on with.
 fn turn_into<'a, V>(
     pages: &'a Pages<V>,
     area: Rect,

@@ -355,7 +355,7 @@ fn trim_end<V, T: Places<V> + Drop>(first: usize, parts: &mut Vec<T>)
     ensures filled { EndsFilled T.at parts.new.items }
     ensures kept { IsKept (at_window T.at) (first, parts.old.items) (first, parts.new.items) }
 {
-    'end: while ends_vacant(parts) {
+    while ends_vacant(parts) {
         let _ = parts.pop();
     }
 }
@@ -383,7 +383,7 @@ fn vacant_before<V, T: Places<V>>(parts: &[T]) -> usize
     ensures filled { result < length parts.now → HasSome T.at (slice_get parts.now result) }
 {
     let mut place = 0;
-    'parts: while place < parts.len() {
+    while place < parts.len() {
         let part = &parts[place];
         if !part.is_vacant() {
             return place;

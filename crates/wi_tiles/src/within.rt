@@ -3,13 +3,12 @@
 ghost use Rattle.std.specs.Prelude.{◌≡◌, ◌≢◌, ◌<◌, ℕ, true, IsSome, IfSome, IfNone, MatchOption, filter};
 ghost use Rattle.std.specs.Int.{bit_at};
 ghost use Rattle.std.specs.Map.Iter.{TakesFirst};
-ghost use Rattle.wi_tiles.specs.Inner.Cells.{Pages as AllPages, is_ahead};
+ghost use Rattle.wi_tiles.specs.Inner.Cells.{is_ahead};
 ghost use Rattle.wi_tiles.specs.Inner.Entries.{entries_of};
 ghost use Rattle.wi_tiles.specs.Inner.Lines.{slot};
-ghost use Rattle.wi_tiles.specs.Inner.Turns.{LeadsOn};
-ghost use Rattle.wi_tiles.specs.Inner.Within.{entry, filled, CountsFirst, GoesOn, AreBeside, IsFirstLeft};
+ghost use Rattle.wi_tiles.specs.Inner.Within.{entry, filled, CountsFirst, IsFirstLeft};
 
-use crate::band::{Tiles, Turn, turn_beside};
+use crate::band::Tiles;
 use crate::found::turn_on;
 use crate::masks::cell_in;
 use crate::pages::{Pages, start};
@@ -73,40 +72,10 @@ impl<'a, V> Within<'a, V> {
         }
     }
 
-    /// The next entry, where nothing may be left of the tile, and the next tile may be one of its band. It stands apart, so that a
-    /// step from one cell of a tile to the next takes little.
+    /// The next entry, where nothing may be left of the tile. It is never inlined, so that a step from one cell of a
+    /// tile to the next takes little.
     #[inline(never)]
-    fn next_beside(&mut self) -> Option<(Address, &'a V)>
-        ensures { TakesFirst entry self.old result self.new }
-    {
-        match beside(
-            self.left,
-            self.area,
-            self.row,
-            self.column,
-            self.tiles,
-            self.first,
-        ) {
-            Some(turn) => {
-                let bit = turn.left.trailing_zeros();
-                self.tile = Some(turn.tile);
-                self.corner = turn.corner;
-                self.left = without(turn.left, bit);
-                self.before = turn.before + 1;
-                self.whole = turn.whole;
-                self.row = turn.row;
-                self.column = turn.column;
-                self.tiles = turn.tiles;
-                self.first = turn.first;
-                Some((cell_in(turn.corner, bit), turn.tile.value_at(turn.before)))
-            }
-            None => self.next_below(),
-        }
-    }
-
-    /// The next entry, wherever it stands. It stands apart, so that a step to the tile beside takes little.
-    #[inline(never)]
-    fn next_below(&mut self) -> Option<(Address, &'a V)>
+    fn next_turned(&mut self) -> Option<(Address, &'a V)>
         ensures { TakesFirst entry self.old result self.new }
     {
         match first_left(self.tile, self.left, self.before, self.whole) {
@@ -163,7 +132,7 @@ impl<'a, V> Iterator for Within<'a, V> {
                 self.before = found.1 + 1;
                 Some((cell_in(self.corner, found.0), found.2))
             }
-            None => self.next_beside(),
+            None => self.next_turned(),
         }
     }
 }
@@ -208,29 +177,6 @@ fn place_of<V>(tile: &Tile<V>, bit: u32, before: usize, whole: bool) -> usize
         before
     } else {
         tile.count_before(bit)
-    }
-}
-
-/// Turns to the next tile of a band, where nothing is left of one, and tiles of the band are at hand.
-fn beside<'a, V>(
-    left: u64,
-    area: Rect,
-    row: u32,
-    column: u32,
-    tiles: Option<Tiles<'a, V>>,
-    first: usize,
-) -> Option<Turn<'a, V>>
-    requires { GoesOn area row column tiles first }
-    ensures empty { IfSome result (λ t. left ≡ 0) }
-    ensures some { IfSome result (λ t. (w : AllPages V) → AreBeside w area row tiles.entry
-        → LeadsOn w area row column t) }
-{
-    if left != 0 {
-        return None;
-    }
-    match tiles {
-        Some(tiles) => turn_beside(tiles, area, row, column, first),
-        None => None,
     }
 }
 

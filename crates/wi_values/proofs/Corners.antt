@@ -1,5 +1,5 @@
--- A rectangle's corners may stand in any order.
-use Rattle.wi_values.proofs.Words.{◌≡◌, ℕ, min, max, true, nat_le, ◌&&◌, arith, nat_tests, row_of, column_of, rect_of, is_within, CornersMayTurn}
+-- A rectangle's corners may stand in any order, and both may be one cell.
+use Rattle.wi_values.proofs.Words.{◌≡◌, ℕ, min, max, true, nat_le, ◌&&◌, arith, nat_tests, Area, place, row_of, column_of, rect_of, is_within, CornersMayTurn}
 use Rattle.wi_values.proofs.Within.{row_of_place, column_of_place}
 
 turned : (a b : ℕ) → rect_of a b ≡ rect_of b a
@@ -28,3 +28,13 @@ inside a b =
 
 pub corners_may_turn : CornersMayTurn
 corners_may_turn a b = (turned a b, inside a b)
+
+-- both corners of a cell's rectangle are that cell
+abbrev pub of_cell : ℕ → Area
+of_cell a = record { first = a; last = a }
+
+pub one_cell : (a : ℕ) → of_cell a ≡ rect_of a a
+one_cell a =
+    let first : place (min (row_of a) (row_of a)) (min (column_of a) (column_of a)) ≡ a = omega arith in
+    let last : place (max (row_of a) (row_of a)) (max (column_of a) (column_of a)) ≡ a = omega arith in
+    cc

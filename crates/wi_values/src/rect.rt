@@ -39,6 +39,16 @@ impl Rect {
         }
     }
 
+    /// The rectangle of one cell.
+    pub fn of(cell: Address) -> Rect
+        ensures { result ≡ rect_of cell cell }
+    {
+        Rect {
+            first: cell,
+            last: cell,
+        }
+    }
+
     /// The rectangle that a text such as `B2:A1` or `B2` names.
     #[tactic(auto, unfolding(crate::specs::AddressReading::read_rect))]
     pub fn read(bytes: &[u8]) -> Result<Rect, AddressFault>
@@ -47,7 +57,7 @@ impl Rect {
         match colon_at(bytes) {
             None => {
                 let cell = Address::read(bytes)?;
-                Ok(Rect::new(cell, cell))
+                Ok(Rect::of(cell))
             }
             Some(colon) => between(
                 Address::read(&bytes[..colon]),

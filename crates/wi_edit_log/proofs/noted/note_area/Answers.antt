@@ -1,9 +1,10 @@
+use Rattle.wi_edit_log.proofs.Words.{Some}
 use Rattle.wi_edit_log.proofs.Next.{fewer_left}
 use Rattle.wi_edit_log.proofs.Noting.{noting_done, noting_on, noting_start}
 use Rattle.wi_edit_log.proofs.noted.note_area.Goals as goal
 
 pub loop-ahead-init : goal.loop-ahead-init
-loop-ahead-init c = noting_start c.args.area c.args.session c.args.count c.args.notes.now.entries c.first_cell-ahead.result c.first_cell-ahead.ensures
+loop-ahead-init c = noting_start c.args.area c.args.session c.args.count c.args.notes.now.entries (Some c.first_cell.result) c.first_cell.ensures
 
 pub cell_after-ahead-requires : goal.cell_after-ahead-requires
 cell_after-ahead-requires c = (rw c.in-Some.is at c.loop-ahead.invariant).within

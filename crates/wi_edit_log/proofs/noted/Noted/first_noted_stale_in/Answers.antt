@@ -1,9 +1,9 @@
-use Rattle.wi_edit_log.proofs.Words.{◌∙◌, sym, is_noted_stale_of}
+use Rattle.wi_edit_log.proofs.Words.{◌∙◌, Some, sym, is_noted_stale_of}
 use Rattle.wi_edit_log.proofs.Next.{fewer_left, searched_found, searched_none, searched_on, searched_start}
 use Rattle.wi_edit_log.proofs.noted.Noted.first_noted_stale_in.Goals as goal
 
 pub loop-ahead-init : goal.loop-ahead-init
-loop-ahead-init c = searched_start c.args.area (is_noted_stale_of c.args.self.now.notes.entries c.args.session c.args.since) c.first_cell-ahead.result c.first_cell-ahead.ensures
+loop-ahead-init c = searched_start c.args.area (is_noted_stale_of c.args.self.now.notes.entries c.args.session c.args.since) (Some c.first_cell.result) c.first_cell.ensures
 
 pub returns-then-is_noted_stale : goal.returns-then-is_noted_stale
 returns-then-is_noted_stale c =

@@ -1,7 +1,7 @@
 use Rattle.wi_tiles.proofs.Words.{arith, ◌∷◌, sym, ap, ◌∙◌, w64, trailing_zeros, place, entries_of, is_pending}
 use Rattle.wi_tiles.proofs.StepLemmas.{step_left, walk_left, walk_there, walk_counts, step_turned, walk_turned, turn_within, turn_place, turn_few, turn_value}
 use Rattle.wi_tiles.proofs.WalkLemmas.{passing, all_behind, ends}
-use Rattle.wi_tiles.proofs.within.Within.next_below.Goals as goal
+use Rattle.wi_tiles.proofs.within.Within.next_turned.Goals as goal
 
 pub first_left-requires-clause-there : goal.first_left-requires-clause-there
 first_left-requires-clause-there g c = walk_there c.self.inside.pages.now c.self.inside.area c.self.inside.corner c.self.inside.left c.self.inside.before c.self.inside.whole c.self.inside.row c.self.inside.column c.self.inside.tiles c.self.inside.first c.self.inside.tile c.self.invariant
