@@ -1,5 +1,5 @@
 -- What the commands that edit the sheet name and put.
-use Rattle.std.specs.Prelude.{◌≡◌, ◌+◌, ℕ, pos, ◌-ℤ◌, Bool, false, List, [], ◌∷◌, ◌++◌, map, filter, Option, Some, None, Ok}
+use Rattle.std.specs.Prelude.{◌≡◌, ◌+◌, ℕ, pos, ◌-ℤ◌, Bool, false, List, [], ◌∷◌, ◌++◌, map, filter, Option, Some, None}
 use Rattle.std.specs.List.{AllZip, concat}
 use Rattle.std.specs.Map.{keys_of}
 use Rattle.wi_fraction.specs.Text.{Bytes}
@@ -46,7 +46,7 @@ module _ (s : State) where
       copied (pos (row_of to) -ℤ pos (row_of from)) (pos (column_of to) -ℤ pos (column_of from)) (content_of s.stored.sheet from)
 
   abbrev pub Puts : Command → List Put → Type 0
-  Puts (Set force at text) puts = (c : Content) × IsContent text (Ok c) × (puts ≡ (address at, Some c) ∷ [])
+  Puts (Set force at text) puts = (c : Content) × IsContent text c × (puts ≡ (address at, Some c) ∷ [])
   Puts (Clear force rect) puts = puts ≡ map (λ a. (a, None)) (filter (is_within (area rect)) (keys_of s.stored.sheet))
   Puts (Fill force from rect) puts =
       AllZip (λ to put. (put.0 ≡ to) × (copy_in (address from) to ≡ Some put.1)) (cells_of (area rect)) puts
