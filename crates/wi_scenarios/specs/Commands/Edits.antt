@@ -9,7 +9,7 @@ use Rattle.wi_parser.specs.Contents.{IsContent}
 use Rattle.wi_parser.specs.Sheet.{Sheet, content_of}
 use Rattle.wi_csv.specs.Records.{recs}
 use Rattle.wi_import.specs.Fields.{Field, fields_from, areas_from}
-use Rattle.wi_import.specs.Imports.{AreChanges}
+use Rattle.wi_import.specs.Imports.{IsChange}
 use Rattle.wi_store.specs.Store.{edited, without_empty}
 use Rattle.wi_scenarios.specs.State.{State}
 use Rattle.wi_scenarios.specs.Fill.{copied}
@@ -50,7 +50,7 @@ module _ (s : State) where
   Puts (Clear force rect) puts = puts ≡ map (λ a. (a, None)) (filter (is_within (area rect)) (keys_of s.stored.sheet))
   Puts (Fill force from rect) puts =
       AllZip (λ to put. (put.0 ≡ to) × (copy_in (address from) to ≡ Some put.1)) (cells_of (area rect)) puts
-  Puts (Csv force (Some at) n lines) puts = AreChanges (fields at lines) puts
+  Puts (Csv force (Some at) n lines) puts = AllZip IsChange (fields at lines) puts
   Puts c puts = ⊥
 
   -- the sheet after an edit, and the state, whose log has it
