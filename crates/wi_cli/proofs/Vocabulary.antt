@@ -125,8 +125,7 @@ pub use Rattle.wi_values.proofs.ReadsBack.{no_letters, scan}
 pub use Rattle.wi_values.proofs.Spelling.{digits_step, letters_above_zero}
 pub use Rattle.wi_values.proofs.Within.{column_of_place, row_of_place}
 pub use Rattle.wi_values.specs.Address.{Area, cells_of, column_of, columns, is_column, is_row, is_row_number, is_within, letters_value, place, rect_of, row_of, rows, size_of}
-unfoldable pub use Rattle.wi_values.specs.Address.{address_text}
-unfoldable pub use Rattle.wi_values.specs.Inner.Letters.{letters_within}
+unfoldable pub use Rattle.wi_values.specs.Address.{address_text, letters_within}
 pub use Rattle.wi_values.specs.AddressReading.{cell_at, corners}
 unfoldable pub use Rattle.wi_values.specs.AddressReading.{address_at, read_address, read_rect}
 pub use Rattle.wi_values.specs.Imported.{IsImported}
