@@ -73,13 +73,12 @@ pub use Rattle.wi_import.specs.Fields.{Field, IsInside, areas_from, fields_at, f
 pub use Rattle.wi_import.specs.Imports.{AreChanges, IsFault, IsImport, bad_field, out_of_sheet, too_long}
 pub use Rattle.wi_import.specs.Inner.Reading.{IsText, IsTooLong}
 pub use Rattle.wi_import.specs.declared.fault.ImportFault.{ImportFault}
-pub use Rattle.wi_parser.proofs.ContentsOfTexts.{content_is_one}
-pub use Rattle.wi_parser.specs.Contents.{AreJudged, IsContent, IsParsed, a_constant, a_formula, a_long_text, a_text, a_tree, as_judged, at_fault, no_constant, no_formula, no_tree}
+pub use Rattle.wi_parser.proofs.ContentsOfTexts.{content_is_one, is_fault, one_content}
+pub use Rattle.wi_parser.specs.Contents.{IsContent}
+pub use Rattle.wi_parser.specs.Inner.Answered.{HasFault, IsAnsweredAs, IsFirstFault, faults}
 pub use Rattle.wi_parser.specs.Inner.Reading.{content_read}
 pub use Rattle.wi_parser.specs.Reads.{cell_area}
 pub use Rattle.wi_parser.specs.Sheet.{content_of}
-pub use Rattle.wi_parser.specs.Symbol.{Symbol}
-pub use Rattle.wi_parser.specs.Tree.{Tree}
 pub use Rattle.wi_parser.specs.declared.content.Content.{Content}
 pub use Rattle.wi_parser.specs.declared.fault.ParseFault.{ParseFault}
 pub use Rattle.wi_propagate.specs.KeptSheet.{KeptSheet}
@@ -126,12 +125,11 @@ pub use Rattle.wi_values.proofs.ReadsBack.{no_letters, scan}
 pub use Rattle.wi_values.proofs.Spelling.{digits_step, letters_above_zero}
 pub use Rattle.wi_values.proofs.Within.{column_of_place, row_of_place}
 pub use Rattle.wi_values.specs.Address.{Area, cells_of, column_of, columns, is_column, is_row, is_row_number, is_within, letters_value, place, rect_of, row_of, rows, size_of}
-unfoldable pub use Rattle.wi_values.specs.Address.{address_text}
+unfoldable pub use Rattle.wi_values.specs.Address.{address_text, letters_within}
 pub use Rattle.wi_values.specs.AddressReading.{cell_at, corners}
 unfoldable pub use Rattle.wi_values.specs.AddressReading.{address_at, read_address, read_rect}
 pub use Rattle.wi_values.specs.Imported.{IsImported}
 pub use Rattle.wi_values.specs.Inner.Import.{imported}
-unfoldable pub use Rattle.wi_values.specs.Inner.Letters.{letters_within}
 pub use Rattle.wi_values.specs.Name.{bytes_of, is_name, read_name}
 pub use Rattle.wi_values.specs.declared.address.AddressFault.{AddressFault}
 pub use Rattle.wi_values.specs.declared.address.AddressFault.TheVariants.{Shape}

@@ -2,8 +2,7 @@
 
 ghost use Rattle.std.specs.Prelude.{◌≡◌, ◌==◌, ◌||◌, false, is_err, OnOk, OnErr};
 ghost use Rattle.std.specs.Io.KnownBytes.{Appends};
-ghost use Rattle.wi_values.specs.Address.{address_text};
-ghost use Rattle.wi_values.specs.Inner.Letters.{letters_within};
+ghost use Rattle.wi_values.specs.Address.{address_text, letters_within};
 ghost use Rattle.wi_cli.specs.Inner.Front.{AppendsFront};
 
 use crate::write::write_all;

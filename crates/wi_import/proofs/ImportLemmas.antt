@@ -115,6 +115,9 @@ changes_are (f ∷ fs) [] h = absurd h
 changes_are (f ∷ fs) ((a, o) ∷ cs) ((same, content), more) =
     pair_is (field_cell f) a (content_of f.bytes) o (map change_of fs) cs (sym same) (content_is f.bytes o content) (changes_are fs cs more)
 
+pub one_list : (fields : List Field) (p q : List (ℕ × Option Content)) → AllZip IsChange fields p → AllZip IsChange fields q → p ≡ q
+one_list fields p q h k = sym (changes_are fields p h) ∙ changes_are fields q k
+
 none_too_long : (fields : List Field) (changes : List (ℕ × Option Content)) → AllZip IsChange fields changes → list_any (λ f. is_too_long f.bytes) fields ≡ false
 none_too_long [] [] h = refl
 none_too_long [] (c ∷ cs) h = absurd h

@@ -1,6 +1,8 @@
 -- What a text is taken for, and nothing else: the tree that is parsed, the content that is read.
-use Rattle.wi_parser.proofs.Words.{◌≡◌, ◌↔◌, ℕ, ◌+◌, Bool, true, false, nat_lt, List, ◌++◌, length, Option, Some, None, is_some, option_map, unwrap_or, Result, Ok, Err, ok_or, if◌then◌else◌, refl, sym, ap, ◌∙◌, subst, arith, nat_tests, Value, max_text, imported, IsImported, imported_exactly, tokens, Content, Constant, ParseFault, TooLong, Syntax, IsFormulaText, IsNoFormulaText, IsTextOf, AreJudged, at_fault, a_tree, no_tree, IsParsed, too_long, as_judged, IsConstantText, IsContent, a_formula, no_formula, a_long_text, a_constant, no_constant, symbols_of, symbols_by, after, after_prefix, after_equals, formula_symbols, Spells, loosest, max_depth, whole, max_formula, refusal_of, unless_refused, judged, parsed, as_content, taken_as_text, constant_read, content_read, Symbol, AreSymbols, Tree}
+use Rattle.wi_parser.proofs.Words.{◌≡◌, ◌↔◌, ℕ, ◌+◌, Bool, true, false, nat_lt, List, [], ◌∷◌, ◌++◌, length, Option, Some, None, is_some, option_map, unwrap_or, Result, Ok, Err, ok_or, if◌then◌else◌, refl, sym, ap, ◌∙◌, subst, inl, inr, drop, arith, nat_tests, list_any, ltb-false, IsTrue, ◌≤◌, ◌<◌, Value, max_text, imported, IsImported, imported_exactly, tokens, Content, Constant, Formula, ParseFault, TooLong, OutOfSheet, NumberRange, TooDeep, Syntax, Memory, IsFormulaText, IsNoFormulaText, IsTextOf, AreJudged, at_fault, a_tree, no_tree, IsParsed, too_long, as_judged, IsConstantText, IsContent, a_formula, a_constant, HasSymbols, IsTooLong, a_long_formula, a_long_text, a_long_constant, HasFault, faults, IsFirstFault, IsAnsweredAs, IsSpelling, bad_token, is_out_of_sheet, is_unfit, is_too_deep, symbols_of, symbols_by, after, after_prefix, after_equals, formula_symbols, Spells, loosest, max_depth, whole, max_formula, refusal_of, unless_refused, judged, parsed, as_content, taken_as_text, constant_read, content_read, Symbol, AreSymbols, Tree}
 use Rattle.std.specs.Prelude.{codes}
+use Rattle.std.specs.List.{Contains}
+use Rattle.std.proofs.lemmas.List.Folds.{Any-from_list_any, list_any_at}
 use Rattle.wi_values.specs.declared.value.Value.TheVariants.{Text}
 use Rattle.wi_parser.specs.Contents.{plain, prefixed, a_text}
 use Rattle.wi_parser.proofs.Complete.{whole_complete, one_tree}
@@ -8,7 +10,7 @@ use Rattle.wi_parser.proofs.Depth.{depth-deepest}
 use Rattle.wi_parser.proofs.TooDeep.{few_open}
 use Rattle.wi_parser.proofs.Fronts.{after-append, after-some}
 use Rattle.wi_parser.proofs.Grammatical.{spelling_exactly}
-use Rattle.wi_parser.proofs.Parses.{parsed_exactly, parsed_long, parsed_short, no_refused_first, shallow}
+use Rattle.wi_parser.proofs.Parses.{by_depth, parsed_exactly, parsed_long, parsed_short, no_refused_first, shallow}
 use Rattle.wi_parser.proofs.Sound.{whole_sound}
 use Rattle.wi_parser.proofs.SymbolsOfTexts.{symbols_exactly}
 
@@ -86,8 +88,11 @@ body_after text body (prefixed bs) = refl
 
 -- ---- no text has two trees, and one that is no formula's has none
 
+symbols_have : (text : List ℕ) (P : List Symbol → Type 0) → HasSymbols text P → P (formula_symbols text)
+symbols_have text P h = subst P (sym ((formula_symbols_exactly text h.0 h.1 h.2).0 h.3)) h.4
+
 spelled_by : (text : List ℕ) (t : Tree) → IsTextOf text t → Spells loosest t (formula_symbols text)
-spelled_by text t a = subst (λ ts. Spells loosest t ts) (sym ((formula_symbols_exactly text a.body a.symbols a.is_formula).0 a.are_symbols)) ((spelling_exactly t a.symbols).0 a.spelled)
+spelled_by text t a = (spelling_exactly t (formula_symbols text)).0 (symbols_have text (IsSpelling t) a)
 
 pub one_tree_of_text : (text : List ℕ) (t u : Tree) → IsTextOf text t → IsTextOf text u → t ≡ u
 one_tree_of_text text t u a b = one_tree t u (formula_symbols text) (spelled_by text t a) (spelled_by text u b)
@@ -121,62 +126,174 @@ no_rest : (text : List ℕ) → IsConstantText text → (o : Option (List ℕ)) 
 no_rest text h None e = e
 no_rest text h (Some rest) e = absurd (h.no_apostrophe rest (after-some (codes "'") text rest e))
 
--- ---- a content
+-- ---- texts that are too long
 
-formula_content : (text : List ℕ) (r : Result Tree ParseFault) → IsParsed text r → IsContent text (as_content r)
-formula_content text (Ok t) h = a_formula text t h
-formula_content text (Err e) h = no_formula text e h
+no_formula : (text : List ℕ) → after_equals text ≡ None → (body : List ℕ) → IsFormulaText text body → ⊥
+no_formula text e body f = let g = body_after text body f in cc
 
-text_content : (rest : List ℕ) (b : Bool) → nat_lt max_text (length rest) ≡ b → IsContent (codes "'" ++ rest) (if b then Err TooLong else Ok (Constant (Text rest)))
-text_content rest true e = a_long_text rest (grind (arith, nat_tests, e))
-text_content rest false e = a_text rest (grind (arith, nat_tests, e))
+long_formula : (text : List ℕ) → IsTooLong text → (body : List ℕ) → IsFormulaText text body → max_formula < length text
+long_formula text (a_long_formula bs b g long) body f = long
+long_formula text (a_long_text rest long) body f = absurd (no_formula (codes "'" ++ rest) refl body f)
+long_formula text (a_long_constant bs c h) body f = absurd (c.no_formula body f)
 
-constant_content : (text : List ℕ) (o : Option Value) → IsConstantText text → IsImported text o → IsContent text (ok_or (option_map Constant o) TooLong)
-constant_content text (Some v) c h = a_constant text v c h
-constant_content text None c h = no_constant text c h
+long_text : (text : List ℕ) → IsTooLong text → (rest : List ℕ) → text ≡ codes "'" ++ rest → max_text < length rest
+long_text text (a_long_formula bs b g long) rest e = absurd (no_formula bs (ap after_equals e) b g)
+long_text text (a_long_text other long) rest e = subst (λ t. max_text < length t) (ap (drop 1) e) long
+long_text text (a_long_constant bs c h) rest e = absurd (c.no_apostrophe rest e)
 
-content_holds : (text : List ℕ) → IsContent text (content_read text)
-unfolding content_read
-content_holds text = by_equals (after_equals text) refl
+long_constant : (text : List ℕ) → IsTooLong text → IsConstantText text → IsImported text None
+long_constant text (a_long_formula bs b g long) c = absurd (c.no_formula b g)
+long_constant text (a_long_text other long) c = absurd (c.no_apostrophe other refl)
+long_constant text (a_long_constant bs d h) c = h
+
+-- ---- the faults of a formula
+
+only_outside : (s : Symbol) → is_out_of_sheet s ≡ true → s ≡ bad_token OutOfSheet
+only_outside (bad_token OutOfSheet) h = refl
+only_outside s h = cc
+
+only_unfit : (s : Symbol) → is_unfit s ≡ true → s ≡ bad_token NumberRange
+only_unfit (bad_token NumberRange) h = refl
+only_unfit s h = cc
+
+has_bad : (p : Symbol → Bool) (e : ParseFault) → ((s : Symbol) → p s ≡ true → s ≡ bad_token e) → (ts : List Symbol) → list_any p ts ≡ true → Contains ts (bad_token e)
+has_bad p e only ts h =
+    let a = Any-from_list_any p ts h in
+    subst (Contains ts) (only a.1 a.4) (a.0, a.2, a.3)
+
+none_bad : (p : Symbol → Bool) (e : ParseFault) → p (bad_token e) ≡ true → (ts : List Symbol) → list_any p ts ≡ false → Contains ts (bad_token e) → ⊥
+none_bad p e passes ts h c = let k = list_any_at p ts c.0 (bad_token e) c.1 (ap p c.2 ∙ passes) in cc
+
+module _ (text body : List ℕ) (f : IsFormulaText text body) (short : IsTooLong text → ⊥) where
+  has : (P : List Symbol → Type 0) → P (formula_symbols text) → HasSymbols text P
+  has P p = (body, formula_symbols text, f, (formula_symbols_exactly text body (formula_symbols text) f).1 refl, p)
+
+  inside : list_any is_out_of_sheet (formula_symbols text) ≡ false → HasFault text OutOfSheet → ⊥
+  inside p h = none_bad is_out_of_sheet OutOfSheet refl (formula_symbols text) p (symbols_have text (λ ts. Contains ts (bad_token OutOfSheet)) h)
+
+  fits : list_any is_unfit (formula_symbols text) ≡ false → HasFault text NumberRange → ⊥
+  fits p h = none_bad is_unfit NumberRange refl (formula_symbols text) p (symbols_have text (λ ts. Contains ts (bad_token NumberRange)) h)
+
+  is_shallow : is_too_deep (formula_symbols text) ≡ false → HasFault text TooDeep → ⊥
+  is_shallow p h = let k = symbols_have text (λ ts. IsTrue (is_too_deep ts)) h in cc
+
+  -- by the three tests before a tree is read, and what is read
+  judged_answered : (a b c : Bool) → list_any is_out_of_sheet (formula_symbols text) ≡ a → list_any is_unfit (formula_symbols text) ≡ b → is_too_deep (formula_symbols text) ≡ c
+      → (o : Option Tree) → whole (max_depth + 1) (formula_symbols text) ≡ o
+      → IsAnsweredAs text (as_content (unless_refused (if a then Some OutOfSheet else (if b then Some NumberRange else (if c then Some TooDeep else None))) o))
+  judged_answered true b c p q r o e = inr (short, inl (has (λ ts. Contains ts (bad_token OutOfSheet)) (has_bad is_out_of_sheet OutOfSheet only_outside _ p), refl))
+  judged_answered false true c p q r o e =
+      inr (short, inr (inside p, inl (has (λ ts. Contains ts (bad_token NumberRange)) (has_bad is_unfit NumberRange only_unfit _ q), refl)))
+  judged_answered false false true p q r o e = inr (short, inr (inside p, inr (fits q, inl (has (λ ts. IsTrue (is_too_deep ts)) r, refl))))
+  judged_answered false false false p q r None e =
+      inr (short, inr (inside p, inr (fits q, inr (is_shallow r, inl (has (λ ts. (t : Tree) → IsSpelling t ts → ⊥) none, refl)))))
+    where
+      none : (t : Tree) → IsSpelling t (formula_symbols text) → ⊥
+      none t s =
+          let k = spelled_read (formula_symbols text) t (by_depth (formula_symbols text) p q ∙ ap (λ x. if x then Some TooDeep else None) r) ((spelling_exactly t (formula_symbols text)).0 s) in
+          cc
+  judged_answered false false false p q r (Some t) e = (a_formula text t (has (IsSpelling t) spelled), no_fault)
+    where
+      spelled : IsSpelling t (formula_symbols text)
+      spelled = (spelling_exactly t (formula_symbols text)).1 (whole_sound (max_depth + 1) (formula_symbols text) t e)
+
+      no_fault : (x : ParseFault) → HasFault text x → ⊥
+      no_fault TooLong h = short h
+      no_fault OutOfSheet h = inside p h
+      no_fault NumberRange h = fits q h
+      no_fault TooDeep h = is_shallow r h
+      no_fault Syntax h = symbols_have text (λ ts. (u : Tree) → IsSpelling u ts → ⊥) h t spelled
+      no_fault Memory h = h
+
+-- ---- what is answered
+
+formula_answered : (text body : List ℕ) → IsFormulaText text body → IsAnsweredAs text (as_content (parsed text))
+unfolding parsed
+formula_answered text body f = by_length (nat_lt max_formula (length text)) refl
   where
-    by_apostrophe : after_equals text ≡ None → (o : Option (List ℕ)) → after (codes "'") text ≡ o → IsContent text (constant_read text o)
-    by_apostrophe e None f = constant_content text (imported text) (constant_text text e f) ((imported_exactly text (imported text)).1 refl)
-    by_apostrophe e (Some rest) f =
-        subst (λ t. IsContent t (taken_as_text rest)) (sym (after-some (codes "'") text rest f)) (text_content rest (nat_lt max_text (length rest)) refl)
+    by_length : (b : Bool) → nat_lt max_formula (length text) ≡ b → IsAnsweredAs text (as_content (if b then Err TooLong else judged (formula_symbols text)))
+    by_length true e = inl (a_long_formula text body f (grind (arith, nat_tests, e)), refl)
+    by_length false e =
+        judged_answered text body f (λ h. omega (arith, ltb-false max_formula (length text) e, long_formula text h body f)) _ _ _ refl refl refl (whole (max_depth + 1) (formula_symbols text)) refl
 
-    by_equals : (o : Option (List ℕ)) → after_equals text ≡ o → IsContent text (if is_some o then as_content (parsed text) else constant_read text (after (codes "'") text))
-    by_equals (Some body) e = formula_content text (parsed text) (parsed_holds text body (formula_text text body e))
+only_long : (text : List ℕ) → after_equals text ≡ None → (IsTooLong text → ⊥) → (x : ParseFault) → HasFault text x → ⊥
+only_long text e short TooLong h = short h
+only_long text e short OutOfSheet h = no_formula text e h.0 h.2
+only_long text e short NumberRange h = no_formula text e h.0 h.2
+only_long text e short TooDeep h = no_formula text e h.0 h.2
+only_long text e short Syntax h = no_formula text e h.0 h.2
+only_long text e short Memory h = h
+
+text_answered : (rest : List ℕ) (b : Bool) → nat_lt max_text (length rest) ≡ b → IsAnsweredAs (codes "'" ++ rest) (if b then Err TooLong else Ok (Constant (Text rest)))
+text_answered rest true e = inl (a_long_text rest (grind (arith, nat_tests, e)), refl)
+text_answered rest false e =
+    (a_text rest, only_long (codes "'" ++ rest) refl (λ h. omega (arith, ltb-false max_text (length rest) e, long_text (codes "'" ++ rest) h rest refl)))
+
+constant_answered : (text : List ℕ) (o : Option Value) → after_equals text ≡ None → IsConstantText text → IsImported text o
+    → IsAnsweredAs text (ok_or (option_map Constant o) TooLong)
+constant_answered text (Some v) e c h = (a_constant text v c h, only_long text e short)
+  where
+    short : IsTooLong text → ⊥
+    short l =
+        let long = (imported_exactly text None).0 (long_constant text l c) in
+        let some = (imported_exactly text (Some v)).0 h in
+        cc
+constant_answered text None e c h = inl (a_long_constant text c h, refl)
+
+content_answered : (text : List ℕ) → IsAnsweredAs text (content_read text)
+unfolding content_read
+content_answered text = by_equals (after_equals text) refl
+  where
+    by_apostrophe : after_equals text ≡ None → (o : Option (List ℕ)) → after (codes "'") text ≡ o → IsAnsweredAs text (constant_read text o)
+    by_apostrophe e None f = constant_answered text (imported text) e (constant_text text e f) ((imported_exactly text (imported text)).1 refl)
+    by_apostrophe e (Some rest) f =
+        subst (λ t. IsAnsweredAs t (taken_as_text rest)) (sym (after-some (codes "'") text rest f)) (text_answered rest (nat_lt max_text (length rest)) refl)
+
+    by_equals : (o : Option (List ℕ)) → after_equals text ≡ o → IsAnsweredAs text (if is_some o then as_content (parsed text) else constant_read text (after (codes "'") text))
+    by_equals (Some body) e = formula_answered text body (formula_text text body e)
     by_equals None e = by_apostrophe e (after (codes "'") text) refl
 
-parsed_body : (text : List ℕ) (r : Result Tree ParseFault) → IsParsed text r → (body : List ℕ) × IsFormulaText text body
-parsed_body text r (too_long bs body f long) = (body, f)
-parsed_body text r (as_judged bs body ts s f short h j) = (body, f)
+-- ---- and nothing else
 
-formula_is : (text : List ℕ) (r : Result Tree ParseFault) → IsParsed text r → content_read text ≡ as_content r
-unfolding content_read
-formula_is text r h =
-    let f = parsed_body text r h in
-    ap (λ o. if is_some o then as_content (parsed text) else constant_read text (after (codes "'") text)) (body_after text f.0 f.1)
-    ∙ ap as_content (parsed_is text r h)
+formula_is : (text : List ℕ) (c : Content) → IsContent text c → (t : Tree) → IsTextOf text t → c ≡ Formula t
+formula_is text c (a_formula bs u h) t k = ap Formula (one_tree_of_text bs u t h k)
+formula_is text c (a_text rest) t k = absurd (no_formula (codes "'" ++ rest) refl k.0 k.2)
+formula_is text c (a_constant bs v d h) t k = absurd (d.no_formula k.0 k.2)
 
-text_is : (rest : List ℕ) (b : Bool) → nat_lt max_text (length rest) ≡ b → content_read (codes "'" ++ rest) ≡ (if b then Err TooLong else Ok (Constant (Text rest)))
-unfolding content_read
-text_is rest b e = ap (λ t. if t then Err TooLong else Ok (Constant (Text rest))) e
+text_is : (text : List ℕ) (c : Content) → IsContent text c → (rest : List ℕ) → text ≡ codes "'" ++ rest → c ≡ Constant (Text rest)
+text_is text c (a_formula bs u h) rest e = absurd (no_formula bs (ap after_equals e) h.0 h.2)
+text_is text c (a_text other) rest e = ap (λ t. Constant (Text (drop 1 t))) e
+text_is text c (a_constant bs v d h) rest e = absurd (d.no_apostrophe rest e)
 
-constant_is : (text : List ℕ) (o : Option Value) → IsConstantText text → IsImported text o → content_read text ≡ ok_or (option_map Constant o) TooLong
-unfolding content_read
-constant_is text o c h =
-    ap (λ x. if is_some x then as_content (parsed text) else constant_read text (after (codes "'") text)) (no_body text c (after_equals text) refl)
-    ∙ ap (constant_read text) (no_rest text c (after (codes "'") text) refl)
-    ∙ ap (λ x. ok_or (option_map Constant x) TooLong) ((imported_exactly text o).0 h)
+constant_is : (text : List ℕ) (c : Content) → IsContent text c → IsConstantText text → (v : Value) → IsImported text (Some v) → c ≡ Constant v
+constant_is text c (a_formula bs u h) d v k = absurd (d.no_formula h.0 h.2)
+constant_is text c (a_text rest) d v k = absurd (d.no_apostrophe rest refl)
+constant_is text c (a_constant bs w b h) d v k =
+    let same = sym ((imported_exactly bs (Some w)).0 h) ∙ (imported_exactly bs (Some v)).0 k in
+    cc
 
-content_is : (text : List ℕ) (r : Result Content ParseFault) → IsContent text r → content_read text ≡ r
-content_is text r (a_formula bs t h) = formula_is bs (Ok t) h
-content_is text r (no_formula bs e h) = formula_is bs (Err e) h
-content_is text r (a_text rest short) = text_is rest false (grind (arith, nat_tests, short))
-content_is text r (a_long_text rest long) = text_is rest true (grind (arith, nat_tests, long))
-content_is text r (a_constant bs v c h) = constant_is bs (Some v) c h
-content_is text r (no_constant bs c h) = constant_is bs None c h
+pub one_content : (text : List ℕ) (c d : Content) → IsContent text c → IsContent text d → d ≡ c
+one_content text c d (a_formula bs t h) k = formula_is bs d k t h
+one_content text c d (a_text rest) k = text_is (codes "'" ++ rest) d k rest refl
+one_content text c d (a_constant bs v b h) k = constant_is bs d k b v h
 
-pub content_is_one : (text : List ℕ) (r : Result Content ParseFault) → IsContent text r ↔ (content_read text ≡ r)
-content_is_one text r = (content_is text r, λ e. subst (IsContent text) e (content_holds text))
+pub is_fault : (text : List ℕ) (xs : List ParseFault) (e : ParseFault) → IsFirstFault text xs e → HasFault text e
+is_fault text [] e h = absurd h
+is_fault text (x ∷ xs) e (inl h) = subst (HasFault text) (sym h.1) h.0
+is_fault text (x ∷ xs) e (inr h) = is_fault text xs e h.1
+
+one_first : (text : List ℕ) (xs : List ParseFault) (e g : ParseFault) → IsFirstFault text xs e → IsFirstFault text xs g → e ≡ g
+one_first text [] e g h k = absurd h
+one_first text (x ∷ xs) e g (inl h) (inl k) = h.1 ∙ sym k.1
+one_first text (x ∷ xs) e g (inl h) (inr k) = absurd (k.0 h.0)
+one_first text (x ∷ xs) e g (inr h) (inl k) = absurd (h.0 k.0)
+one_first text (x ∷ xs) e g (inr h) (inr k) = one_first text xs e g h.1 k.1
+
+one_answer : (text : List ℕ) (r q : Result Content ParseFault) → IsAnsweredAs text r → IsAnsweredAs text q → r ≡ q
+one_answer text (Ok c) (Ok d) h k = ap Ok (one_content text d c k.0 h.0)
+one_answer text (Ok c) (Err e) h k = absurd (h.1 e (is_fault text faults e k))
+one_answer text (Err e) (Ok d) h k = absurd (k.1 e (is_fault text faults e h))
+one_answer text (Err e) (Err g) h k = ap Err (one_first text faults e g h k)
+
+pub content_is_one : (text : List ℕ) (r : Result Content ParseFault) → IsAnsweredAs text r ↔ (content_read text ≡ r)
+content_is_one text r = (one_answer text (content_read text) r (content_answered text), λ e. subst (IsAnsweredAs text) e (content_answered text))

@@ -82,30 +82,33 @@ pub use Rattle.wi_lexer.specs.declared.token.Kind.{Kind}
 pub use Rattle.wi_lexer.specs.declared.token.Kind.TheVariants.{Mark, Name, Rectangle, Text}
 pub use Rattle.wi_lexer.specs.declared.token.Mark.TheVariants.{Ampersand, Asterisk, Caret, CloseParenthesis, Equal, Greater, GreaterOrEqual, Less, LessOrEqual, NotEqual, OpenParenthesis, Percent, Semicolon, Slash}
 pub use Rattle.wi_parser.specs.Capitals.{in_capitals}
-pub use Rattle.wi_parser.specs.Contents.{AreJudged, IsConstantText, IsContent, IsFormulaText, IsNoFormulaText, IsParsed, IsTextOf, a_constant, a_formula, a_long_text, a_tree, as_judged, at_fault, no_constant, no_formula, no_tree, too_long}
+pub use Rattle.wi_parser.specs.Contents.{HasSymbols, IsConstantText, IsContent, IsFormulaText, IsNoFormulaText, IsTextOf, IsTooLong, a_constant, a_formula, a_long_constant, a_long_formula, a_long_text}
 pub use Rattle.wi_parser.specs.Grammar.{AreGrammatical, IsGrammatical, line_of, tree_line}
+pub use Rattle.wi_parser.specs.Inner.Answered.{HasFault, IsAnsweredAs, IsFirstFault, faults}
 pub use Rattle.wi_parser.specs.Inner.Deepest.{deepest, most_signs}
 pub use Rattle.wi_parser.specs.Inner.FormulaText.{IsFrontOf, after, after_equals, after_prefix, cell_symbol, corners_symbol, mark_symbol, number_symbol, rectangle_symbol, reference_symbol, symbol_of, symbols_by, symbols_of, symbols_with}
 unfoldable pub use Rattle.wi_parser.specs.Inner.FormulaText.{formula_symbols}
 pub use Rattle.wi_parser.specs.Inner.Lines.{Spells, SpellsAll, SpellsMore, a_call, a_cell, a_number, a_rectangle, a_text, another_parameter, in_parentheses, joined, last_parameter, loosest, no_parameter, one_input, parameters, tighter, two_inputs, with_percent, with_sign}
 pub use Rattle.wi_parser.specs.Inner.Outcome.{Fails, Finds, FindsMore, before, put_before}
+pub use Rattle.wi_parser.specs.Inner.Parsed.{AreJudged, IsParsed, a_tree, as_judged, at_fault, no_tree, too_long}
 pub use Rattle.wi_parser.specs.Inner.PrintedParts.{pairs_text}
 pub use Rattle.wi_parser.specs.Inner.Reader.{Parse, ParseAll, Read, ReadAll, after_close, after_open, after_parameter, after_percent, after_separator, and_then_all, as_call, called, chain_step, first_parameter, if_last, inputs_at, one_or_two, operator_at, operator_within, parameter_at, percents, prefix_step, prefixed, put_first, read_then, reference_at, sign_at, sign_of, signed_read, then_close, unless_closed, whole}
 unfoldable pub use Rattle.wi_parser.specs.Inner.Reader.{atom, chain, expression, line, more_parameters, pair_at, parameters_at, what_if_at}
 pub use Rattle.wi_parser.specs.Inner.Reading.{IsWithinLimits, ReadsAs, as_content, constant_read, is_too_long, judged, taken_as_text, unless_refused}
 unfoldable pub use Rattle.wi_parser.specs.Inner.Reading.{content_read, parsed}
+pub use Rattle.wi_parser.specs.Inner.Refusals.{is_out_of_sheet, is_refused, is_unfit, refusal_of}
 pub use Rattle.wi_parser.specs.Inner.SymbolCode.{all_meant, meant_by}
 pub use Rattle.wi_parser.specs.Inner.SymbolLists.{symbols_text, tree_text}
 pub use Rattle.wi_parser.specs.Inner.WhatIf.{pair_symbols, what_if_symbols}
 pub use Rattle.wi_parser.specs.Leaves.{Leaf, all_leaves, cell_leaf, leaves, rectangle_leaf, what_if_leaf}
-pub use Rattle.wi_parser.specs.Limits.{max_formula, refusal_of}
+pub use Rattle.wi_parser.specs.Limits.{max_formula}
 pub use Rattle.wi_parser.specs.Nesting.{depth, greatest_depth, is_sign, is_too_deep, max_depth, opened}
 pub use Rattle.wi_parser.specs.Printing.{cell_named, operator_text, printed, symbol_text}
 pub use Rattle.wi_parser.specs.Reads.{area_of, cell_area, inputs_of, leaf_inputs, leaf_reads, leaf_rectangles, reads, rectangles_of}
 pub use Rattle.wi_parser.specs.Shift.{all_references, column_moved, in_sheet, leaf_references, map_references, map_references_in, part, row_moved, shifted, within}
 unfoldable pub use Rattle.wi_parser.specs.Shift.{moved, stays}
 pub use Rattle.wi_parser.specs.Spelling.{HasSpelling, IsSpelling, spelling, spelling_of_all, spelling_of_more}
-pub use Rattle.wi_parser.specs.Symbol.{Symbol, bad_token, close_parenthesis, corners, infix_mark, is_out_of_sheet, is_refused, is_unfit, name, numeral, open_parenthesis, percent_mark, reference, separator, sign_mark, text_literal, what_if_name, written_as}
+pub use Rattle.wi_parser.specs.Symbol.{Symbol, bad_token, close_parenthesis, corners, infix_mark, name, numeral, open_parenthesis, percent_mark, reference, separator, sign_mark, text_literal, what_if_name, written_as}
 pub use Rattle.wi_parser.specs.Symbols.{AreSymbols, Means, NoneBegins, NoneLonger, a_closing_parenthesis, a_name, a_percent_mark, a_reference, a_separator, a_token, an_opening_parenthesis, an_operator, an_outside_rectangle, an_outside_reference, an_unfit_number, at_the_end, name_symbol, no_token, reference_to, white_space}
 pub use Rattle.wi_parser.specs.Tree.{Tree, Trees, binary, call, cell, more_trees, no_trees, number, parenthesized, percent, rectangle, signed, text, trees_of, what_if}
 pub use Rattle.wi_parser.specs.View.{all_of, layer_tree, pair_of, tree_of}

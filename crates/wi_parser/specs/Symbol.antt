@@ -1,5 +1,4 @@
 -- What tokens mean.
-use Rattle.std.specs.Prelude.{Bool, true, false}
 use Rattle.wi_fraction.specs.Number.{Number}
 use Rattle.wi_parser.specs.declared.expr.Corners.{Corners}
 use Rattle.wi_parser.specs.declared.expr.Operator.{Operator}
@@ -8,7 +7,6 @@ use Rattle.wi_parser.specs.declared.expr.Reference.{Reference}
 use Rattle.wi_parser.specs.declared.expr.Sign.{Sign}
 use Rattle.wi_parser.specs.declared.expr.Sign.TheVariants.{Plus, Minus}
 use Rattle.wi_parser.specs.declared.fault.ParseFault.{ParseFault}
-use Rattle.wi_parser.specs.declared.fault.ParseFault.TheVariants.{OutOfSheet, NumberRange}
 use Rattle.wi_fraction.specs.Text.{Bytes}
 
 -- A bad token has no value: no formula has it, for this reason.
@@ -33,18 +31,3 @@ written_as Minus = Subtract
 
 abbrev pub sign_mark : Sign → Symbol
 sign_mark s = infix_mark (written_as s)
-
--- a bad token
-abbrev pub is_refused : Symbol → Bool
-is_refused (bad_token e) = true
-is_refused s = false
-
--- a reference to a cell outside the sheet
-abbrev pub is_out_of_sheet : Symbol → Bool
-is_out_of_sheet (bad_token OutOfSheet) = true
-is_out_of_sheet s = false
-
--- a number that does not fit
-abbrev pub is_unfit : Symbol → Bool
-is_unfit (bad_token NumberRange) = true
-is_unfit s = false

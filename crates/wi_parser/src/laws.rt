@@ -18,7 +18,9 @@ ghost use Rattle.wi_parser.specs.Inner.FormulaText.{formula_symbols, symbol_of, 
 ghost use Rattle.wi_parser.specs.Limits.{max_formula};
 ghost use Rattle.wi_parser.specs.Inner.Reading.{IsWithinLimits, parsed, content_read};
 ghost use Rattle.wi_parser.specs.Symbols.{Means, AreSymbols};
-ghost use Rattle.wi_parser.specs.Contents.{IsFormulaText, IsNoFormulaText, IsTextOf, IsParsed, IsContent};
+ghost use Rattle.wi_parser.specs.Contents.{IsFormulaText, IsNoFormulaText, IsTextOf};
+ghost use Rattle.wi_parser.specs.Inner.Parsed.{IsParsed};
+ghost use Rattle.wi_parser.specs.Inner.Answered.{IsAnsweredAs};
 ghost use Rattle.wi_parser.specs.Printing.{printed};
 ghost use Rattle.wi_parser.specs.Writable.{IsFormulaTree};
 ghost use Rattle.wi_parser.specs.Reads.{reads, rectangles_of};
@@ -48,9 +50,9 @@ pub fn what_is_parsed()
         → IsParsed text r ↔ (parsed text ≡ r) }
 {}
 
-/// A text stands for one content, or is refused for one cause.
+/// A text stands for one content where it has no fault, and is refused for the first fault that it has.
 pub fn what_a_content_is()
-    ensures { (text : List ℕ) (r : Result Content ParseFault) → IsContent text r
+    ensures { (text : List ℕ) (r : Result Content ParseFault) → IsAnsweredAs text r
         ↔ (content_read text ≡ r) }
 {}
 

@@ -2,12 +2,12 @@
 
 ghost use Rattle.std.specs.Prelude.{◌≡◌, ◌<◌, ◌↔◌, Some, None, IsTrue, if◌then◌else◌};
 ghost use Rattle.std.specs.List.{list_any};
-ghost use Rattle.wi_parser.specs.Symbol.{is_refused, is_out_of_sheet, is_unfit};
+ghost use Rattle.wi_parser.specs.Inner.Refusals.{is_refused, is_out_of_sheet, is_unfit};
 ghost use Rattle.wi_parser.specs.Inner.SymbolCode.{meant_by, all_meant};
 ghost use Rattle.wi_parser.specs.Nesting as nesting;
 ghost use Rattle.wi_parser.specs.Nesting.{max_depth};
 ghost use Rattle.wi_parser.specs.Inner.Deepest.{deepest, most_signs};
-ghost use Rattle.wi_parser.specs.Limits as spec;
+ghost use Rattle.wi_parser.specs.Inner.Refusals as spec;
 
 use crate::expr::Operator;
 use crate::fault::ParseFault;

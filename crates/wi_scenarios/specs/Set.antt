@@ -2,7 +2,7 @@
 use Rattle.std.specs.Prelude.{◌≡◌, ◌==◌, ℕ, Bool, List, [], ◌∷◌, length, Option, Some, None, Result, Ok, Err}
 use Rattle.wi_parser.specs.declared.content.Content.{Content}
 use Rattle.wi_parser.specs.declared.fault.ParseFault.{ParseFault}
-use Rattle.wi_parser.specs.Contents.{IsContent}
+use Rattle.wi_parser.specs.Inner.Answered.{IsAnsweredAs}
 use Rattle.wi_parser.specs.Reads.{cell_area}
 use Rattle.wi_scenarios.specs.declared.refusal.Refusal.{Refusal}
 use Rattle.wi_scenarios.specs.State.{State}
@@ -30,5 +30,5 @@ set_answer s force at text read =
 -- The answer to putting a text into a cell: that of what the text stands for.
 pub record IsSetStep (s : State) (force : Bool) (at : ℕ) (text : List ℕ) (a : Answer) : Type 0 where
   pub read : Result Content ParseFault
-  pub is_read : IsContent text read
+  pub is_read : IsAnsweredAs text read
   pub answered : set_answer s force at text read ≡ a

@@ -40,14 +40,13 @@ unfoldable pub use Rattle.wi_fraction.specs.Inner.Reading.{read, read_size}
 pub use Rattle.wi_fraction.specs.Number.{Number}
 pub use Rattle.wi_fraction.specs.Order.Laws.{numbers}
 pub use Rattle.wi_values.specs.Address.{Area, column_of, columns, is_one_of, is_row_number, is_within, letters_value, place, rect_of, row_of, rows}
-unfoldable pub use Rattle.wi_values.specs.Address.{address_text, column_letters}
+unfoldable pub use Rattle.wi_values.specs.Address.{address_text, column_letters, letters_within}
 pub use Rattle.wi_values.specs.AddressReading.{cell_at}
 unfoldable pub use Rattle.wi_values.specs.AddressReading.{address_at, read_address, read_rect}
 pub use Rattle.wi_values.specs.Import.{max_text}
 pub use Rattle.wi_values.specs.Imported.{IsImported, IsWords, SpellsNumber, a_number, a_text, a_truth_value, too_long}
 pub use Rattle.wi_values.specs.Inner.Import.{field_value, number_or, words_value}
 unfoldable pub use Rattle.wi_values.specs.Inner.Import.{imported}
-unfoldable pub use Rattle.wi_values.specs.Inner.Letters.{letters_within}
 pub use Rattle.wi_values.specs.Inner.Same.{texts}
 pub use Rattle.wi_values.specs.Laws.{AddressesReadBack, CornersMayTurn, NumbersReadBack}
 pub use Rattle.wi_values.specs.Replacements.{IsInOrder, as_map, as_replacements, last_for, overridden, replaced, same_replacements}

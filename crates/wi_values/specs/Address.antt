@@ -1,5 +1,5 @@
 -- Addresses and rectangles. A cell's address is its place in row-major order: row after row, in each from the left.
-use Rattle.std.specs.Prelude.{ℕ, ◌+◌, ◌-◌, ◌*◌, ◌/◌, ◌%◌, ◌^◌, ◌≤◌, min, max, List, [], ◌∷◌, ◌++◌, Bool, ◌&&◌, not, ◌==◌, nat_lt, nat_le, length, slice_index, if◌then◌else◌, map, decimal}
+use Rattle.std.specs.Prelude.{ℕ, zero, suc, ◌+◌, ◌-◌, ◌*◌, ◌/◌, ◌%◌, ◌^◌, ◌≤◌, min, max, List, [], ◌∷◌, ◌++◌, Bool, ◌&&◌, not, ◌==◌, nat_lt, nat_le, length, slice_index, if◌then◌else◌, map, decimal}
 use Rattle.std.specs.List.{range_with_len, flat_map, list_any}
 use Rattle.std.specs.Char.{to_ascii_uppercase}
 use Rattle.std.specs.Str.{byte, all_ascii_digits}
@@ -86,16 +86,14 @@ abbrev pub letters_value : Bytes → ℕ
 letters_value [] = 0
 letters_value (c ∷ cs) = (to_ascii_uppercase c - (byte "A" - 1)) * 26 ^ length cs + letters_value cs
 
--- 0 is A, 25 Z, and after Z comes A again
-abbrev pub letter : ℕ → ℕ
-letter n = byte "A" + n % 26
+-- the letters of a column, counted from 1, at most so many; `letters_value` reads them back
+unfoldable pub letters_within : ℕ → ℕ → Bytes
+letters_within zero n = []
+letters_within (suc k) n = if n == 0 then [] else letters_within k ((n - 1) / 26) ++ (byte "A" + (n - 1) % 26) ∷ []
 
--- of a column, counted from 0: A to Z, from 26 on AA to ZZ, from 26 + 26^2 on AAA to XFD
+-- of a column, counted from 0; three are enough
 unfoldable pub column_letters : ℕ → Bytes
-column_letters n =
-    if nat_lt n 26 then letter n ∷ []
-    else (if nat_lt n 702 then letter ((n - 26) / 26) ∷ letter (n - 26) ∷ []
-    else letter ((n - 702) / 676) ∷ letter ((n - 702) / 26) ∷ letter (n - 702) ∷ [])
+column_letters n = letters_within 3 (n + 1)
 
 unfoldable pub address_text : ℕ → Bytes
 address_text a = column_letters (column_of a) ++ decimal (row_of a + 1)

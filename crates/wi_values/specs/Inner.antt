@@ -1,5 +1,4 @@
 -- Words of the code's own contracts, and readers that laws tie to the definitions. Nothing here needs belief.
 pub mod Cells
 pub mod Import
-pub mod Letters
 pub mod Same

@@ -5,9 +5,8 @@ ghost use Rattle.std.specs.Char.{is_ascii_alphabetic};
 ghost use Rattle.std.specs.List.{prefix_len};
 ghost use Rattle.std.specs.Str.{all_ascii_digits};
 ghost use Rattle.std.specs.Str.Parse.{digits_value};
-ghost use Rattle.wi_values.specs.Address.{columns, rows, place, row_of, column_of, letters_value, column_letters, address_text, is_row_number};
+ghost use Rattle.wi_values.specs.Address.{columns, rows, place, row_of, column_of, letters_value, letters_within, column_letters, address_text, is_row_number};
 ghost use Rattle.wi_values.specs.AddressReading.{address_at, read_address};
-ghost use Rattle.wi_values.specs.Inner.Letters.{letters_within};
 
 use itoa::Buffer;
 use std::alloc::AllocError;

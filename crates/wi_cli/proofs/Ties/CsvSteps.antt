@@ -1,7 +1,7 @@
 -- The step of `csv`.
 use Rattle.wi_cli.proofs.Vocabulary.{◌≡◌, ◌<◌, ◌-◌, ℕ, Bool, true, false, ◌==◌, nat_lt, List, [], ◌∷◌, length, ◌⊎◌, inl, inr, Option, Some, None, Ok, Err, refl, sym, ap, ap₂, ◌∙◌, subst, arith, list_any, concat, Any, All, nat_tests, both_ways, Any-from_list_any, list_any-from_Any, ImportFault, recs, Field, IsInside, fields_from, fields_at, areas_from, record_areas_at, IsText, IsTooLong, AreChanges, IsFault, bad_field, too_long, out_of_sheet, IsImport, some_import, State, max_area, no_cause, edit_answer, csv_answer, ImportOutcome, row_of_place, column_of_place, Any-weaker, max_line, without_lf, Bytes, is_long, csv_command, Cell, is_outside, address, Command, Csv, form, Put, Puts, after_edit, fields, Cause, BadLine, BadCommand, CutShort, Outside, TooLarge, NoScenario, BadField, TooLong, OutOfSheet, NumberRange, TooDeep, Syntax, LeavesSheet, Stale, Full, EditLimit, Holds, lies_outside, is_missing, size, Does, Answer, IsStep, causes, IsFirstOf, SameStep, read_any, or-false}
 use Rattle.wi_import.specs.declared.fault.ImportFault.TheVariants as import
-use Rattle.wi_import.proofs.ImportLemmas.{no_other}
+use Rattle.wi_import.proofs.ImportLemmas.{no_other, one_list}
 use Rattle.wi_scenarios.specs.declared.refusal.Refusal.TheVariants as refusal
 use Rattle.wi_scenarios.specs.Step as old
 use Rattle.wi_cli.proofs.Ties.Uniqueness.{same_answers}
@@ -121,9 +121,7 @@ module _ (s : State) (force : Bool) (c : Cell) (n : ℕ) (lines : List Bytes) wh
           no_outside h = all_any IsInside (fields c lines) are.inside h
 
           one_put : (q : List Put) → Puts s csv q → q ≡ puts
-          one_put q h =
-              let same : ◌≡◌ {A = ImportOutcome} (Ok q) (Ok puts) = no_other (fields c lines) (Ok q) (Ok puts) h are in
-              cc
+          one_put q h = one_list (fields c lines) q puts h are.each
 
           later : (x : Cause) → IsFirstOf s csv last x → IsFirstOf s csv causes x
           later x h = front x (inr (no_bad, inr (no_long, inr (no_outside, inr (λ k. k, inr (λ k. k, inr (λ k. k, inr (λ k. k, h))))))))
@@ -143,7 +141,7 @@ module _ (s : State) (force : Bool) (c : Cell) (n : ℕ) (lines : List Bytes) wh
           only x h = absurd h
 
           importing : IsStep s csv (edit_answer s force no_cause (record { named = record_areas_at (address c) text; contents = puts }))
-          importing = edit_step s csv force (record_areas_at (address c) text) puts are one_put refl same_areas (λ h. h) later only (λ d h. h)
+          importing = edit_step s csv force (record_areas_at (address c) text) puts are.each one_put refl same_areas (λ h. h) later only (λ d h. h)
 
         fault_is : (e : ImportFault) → IsFault (fields c lines) e → IsStep s csv (csv_answer s force (address c) text (Err e))
         fault_is e (bad_field fs h) = (BadField, front BadField (inl (h, refl)), refl)
@@ -166,8 +164,7 @@ module _ (s : State) (force : Bool) (c : Cell) (n : ℕ) (lines : List Bytes) wh
 
   csv_done : (x y : State × Bytes) → Does s csv x → Does s csv y → x ≡ y
   csv_done x y h k =
-      let same : ◌≡◌ {A = ImportOutcome} (Ok h.0) (Ok k.0) = no_other (fields c lines) (Ok h.0) (Ok k.0) h.1 k.1 in
-      let puts : h.0 ≡ k.0 = cc in
+      let puts : h.0 ≡ k.0 = one_list (fields c lines) h.0 k.0 h.1 k.1 in
       h.2 ∙ ap (λ (q : List Put). let d : State × Bytes = (after_edit s csv q, []) in d) puts ∙ sym k.2
 
   answered : (l m out : Bool) → list_any is_long lines ≡ l → (n - length lines == 0) ≡ m → is_outside c ≡ out → Answered

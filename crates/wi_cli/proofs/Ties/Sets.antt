@@ -1,54 +1,18 @@
 -- The step of `set`.
-use Rattle.wi_cli.proofs.Vocabulary.{◌≡◌, ◌↔◌, ◌<◌, ℕ, Bool, true, false, ◌==◌, List, [], ◌∷◌, length, ◌⊎◌, inl, inr, Some, None, Result, Ok, Err, if◌then◌else◌, refl, sym, ap, ◌∙◌, subst, arith, list_any, nat_tests, both_ways, Content, ParseFault, IsContent, a_formula, no_formula, a_text, a_long_text, a_constant, no_constant, IsParsed, as_judged, AreJudged, at_fault, a_tree, no_tree, Symbol, Tree, content_read, content_is_one, State, max_area, no_cause, edit_answer, set_answer, set_edit, cell_area, fault_in, of_operand, Cell, is_outside, address, Bytes, Command, Set, form, Put, Puts, after_edit, Cause, BadCommand, Outside, TooLarge, NoScenario, TooLong, OutOfSheet, NumberRange, TooDeep, Syntax, LeavesSheet, Stale, Full, EditLimit, Holds, lies_outside, is_missing, size, Answer, IsStep, causes, IsFirstOf, Does, SameStep, read_by, read_cell}
+use Rattle.wi_cli.proofs.Vocabulary.{◌≡◌, ◌↔◌, ◌<◌, ℕ, Bool, true, false, ◌==◌, List, [], ◌∷◌, length, ◌⊎◌, inl, inr, Some, None, map, ◌++◌, Result, Ok, Err, if◌then◌else◌, refl, sym, ap, ◌∙◌, subst, arith, list_any, nat_tests, both_ways, Content, ParseFault, IsContent, HasFault, IsAnsweredAs, IsFirstFault, faults, content_read, content_is_one, is_fault, one_content, State, max_area, no_cause, edit_answer, set_answer, set_edit, cell_area, fault_in, of_operand, Cell, is_outside, address, Bytes, Command, Set, form, Put, Puts, after_edit, Cause, BadCommand, Outside, TooLarge, NoScenario, TooLong, OutOfSheet, NumberRange, TooDeep, Syntax, LeavesSheet, Stale, Full, EditLimit, Holds, lies_outside, is_missing, size, Answer, IsStep, causes, IsFirstOf, Does, SameStep, read_by, read_cell}
 use Rattle.wi_parser.specs.declared.fault.ParseFault.TheVariants as parse
-use Rattle.wi_parser.specs.Contents.{too_long}
 use Rattle.wi_scenarios.specs.declared.refusal.Refusal.TheVariants as refusal
 use Rattle.wi_scenarios.specs.Step as old
 use Rattle.wi_scenarios.proofs.FirstCause.{answers}
 use Rattle.wi_cli.proofs.Ties.Uniqueness.{same_answers, outside_step}
 use Rattle.wi_cli.proofs.Ties.EditSteps.{last, edit_step}
 
--- ---- contents
-
-one_content : (text : Bytes) (r q : Result Content ParseFault) → IsContent text r → IsContent text q → r ≡ q
-one_content text r q h k = sym ((content_is_one text r).0 h) ∙ (content_is_one text q).0 k
-
-no_refusal : (a b c : Bool) → (if a then Some parse.OutOfSheet else (if b then Some parse.NumberRange else (if c then Some parse.TooDeep else None))) ≡ Some parse.Memory → ⊥
-no_refusal true b c h = cc
-no_refusal false true c h = cc
-no_refusal false false true h = cc
-no_refusal false false false h = cc
-
-judged : (ts : List Symbol) (r : Result Tree ParseFault) → AreJudged ts r → r ≡ Err parse.Memory → ⊥
-judged us r (at_fault ts e h) k =
-    let same : e ≡ parse.Memory = cc in
-    no_refusal _ _ _ (h ∙ ap (λ (x : ParseFault). Some x) same)
-judged us r (a_tree ts t h i) k = cc
-judged us r (no_tree ts h i) k = cc
-
-parsed : (text : Bytes) (r : Result Tree ParseFault) → IsParsed text r → r ≡ Err parse.Memory → ⊥
-parsed whole r (too_long text body h i) k = cc
-parsed whole q (as_judged text body ts r h i j l) k = judged ts r l k
-
-no_memory : (text : Bytes) (r : Result Content ParseFault) → IsContent text r → r ≡ Err parse.Memory → ⊥
-no_memory whole r (a_formula text t h) k = cc
-no_memory whole r (no_formula text e h) k =
-    let same : e ≡ parse.Memory = cc in
-    parsed text (Err e) h (ap (λ (x : ParseFault). let y : Result Tree ParseFault = Err x in y) same)
-no_memory whole r (a_text t h) k = cc
-no_memory whole r (a_long_text t h) k = cc
-no_memory whole r (a_constant text v h i) k = cc
-no_memory whole r (no_constant text h i) k = cc
-
 -- ---- the step
 
 module _ (s : State) (force : Bool) (c : Cell) (text : Bytes) where
-  same_content : {x y : Content} → ◌≡◌ {A = Result Content ParseFault} (Ok x) (Ok y) → x ≡ y
-  same_content e = cc
-
   one_puts : (q p : List Put) → Puts s (Set force c text) q → Puts s (Set force c text) p → q ≡ p
   one_puts q p h k =
-      h.2 ∙ ap (λ (x : Content). let ps : List Put = (address c, Some x) ∷ [] in ps) (same_content (one_content text (Ok h.0) (Ok k.0) h.1 k.1)) ∙ sym k.2
+      h.2 ∙ ap (λ (x : Content). let ps : List Put = (address c, Some x) ∷ [] in ps) (one_content text k.0 h.0 k.1 h.1) ∙ sym k.2
 
   one_done : (x y : State × Bytes) → Does s (Set force c text) x → Does s (Set force c text) y → x ≡ y
   one_done x y h k =
@@ -79,14 +43,7 @@ module _ (s : State) (force : Bool) (c : Cell) (text : Bytes) (inside : is_outsi
     front x h =
         inr (λ k. k, inr (some, inr (λ k. k, inr (λ k. both_ways _ (not_outside force) k, inr (small force, inr (λ k. both_ways _ (none_missing force) k, inr (λ k. k, inr (λ k. k, inr (λ k. k, h)))))))))
 
-    -- the content isn't refused so, where it is read as this
-    differs : (r : Result Content ParseFault) → IsContent text r → (e : ParseFault) → (r ≡ Err e → ⊥) → IsContent text (Err e) → ⊥
-    differs r is e other k = other (one_content text r (Err e) is k)
-
-    module _ (content : Content) (is : IsContent text (Ok content)) where
-      no_fault : (e : ParseFault) → IsContent text (Err e) → ⊥
-      no_fault e k = differs (Ok content) is e (λ h. cc) k
-
+    module _ (content : Content) (is : IsContent text content) (no_fault : (e : ParseFault) → HasFault text e → ⊥) where
       put : Puts s set ((address c, Some content) ∷ [])
       put = (content, is, refl)
 
@@ -94,18 +51,27 @@ module _ (s : State) (force : Bool) (c : Cell) (text : Bytes) (inside : is_outsi
       one_put q h = one_puts s force c text q ((address c, Some content) ∷ []) h put
 
       later : (x : Cause) → IsFirstOf s set last x → IsFirstOf s set causes x
-      later x h = front x (inr (no_fault _, inr (no_fault _, inr (no_fault _, inr (no_fault _, inr (no_fault _, inr (λ k. k, h)))))))
+      later x h = front x (inr (
+        no_fault parse.TooLong,
+        inr (
+          no_fault parse.OutOfSheet,
+          inr (
+            no_fault parse.NumberRange,
+            inr (no_fault parse.TooDeep, inr (no_fault parse.Syntax, inr (λ k. k, h))),
+          ),
+        ),
+      ))
 
       only : (x : Cause) → Holds s x set → Holds s Stale set ⊎ (Holds s Full set ⊎ Holds s EditLimit set)
       only BadCommand h = absurd (some h)
       only Outside h = absurd (both_ways _ (not_outside force) h)
       only TooLarge h = absurd (small force h)
       only NoScenario h = absurd (both_ways _ (none_missing force) h)
-      only TooLong h = absurd (no_fault _ h)
-      only OutOfSheet h = absurd (no_fault _ h)
-      only NumberRange h = absurd (no_fault _ h)
-      only TooDeep h = absurd (no_fault _ h)
-      only Syntax h = absurd (no_fault _ h)
+      only TooLong h = absurd (no_fault parse.TooLong h)
+      only OutOfSheet h = absurd (no_fault parse.OutOfSheet h)
+      only NumberRange h = absurd (no_fault parse.NumberRange h)
+      only TooDeep h = absurd (no_fault parse.TooDeep h)
+      only Syntax h = absurd (no_fault parse.Syntax h)
       only Stale h = inl h
       only Full h = inr (inl h)
       only EditLimit h = inr (inr h)
@@ -119,20 +85,39 @@ module _ (s : State) (force : Bool) (c : Cell) (text : Bytes) (inside : is_outsi
     abbrev set_by : Result Content ParseFault → Answer
     set_by r = edit_answer s force (record no_cause { content = fault_in r }) (set_edit (address c) r)
 
-    by_content : (r : Result Content ParseFault) → IsContent text r → IsStep s set (set_by r)
-    by_content (Ok content) is = putting content is
-    by_content (Err parse.TooLong) is = (TooLong, front TooLong (inl (is, refl)), refl)
-    by_content (Err parse.OutOfSheet) is = (OutOfSheet, front OutOfSheet (inr (differs _ is _ (λ h. cc), inl (is, refl))), refl)
-    by_content (Err parse.NumberRange) is =
-        (NumberRange, front NumberRange (inr (differs _ is _ (λ h. cc), inr (differs _ is _ (λ h. cc), inl (is, refl)))), refl)
-    by_content (Err parse.TooDeep) is =
-        (TooDeep, front TooDeep (inr (differs _ is _ (λ h. cc), inr (differs _ is _ (λ h. cc), inr (differs _ is _ (λ h. cc), inl (is, refl))))), refl)
-    by_content (Err parse.Syntax) is =
-        (Syntax, front Syntax (inr (differs _ is _ (λ h. cc), inr (differs _ is _ (λ h. cc), inr (differs _ is _ (λ h. cc), inr (differs _ is _ (λ h. cc), inl (is, refl)))))), refl)
-    by_content (Err parse.Memory) is = absurd (no_memory text _ is refl)
+    -- the cause for a fault; memory is none, and `set` moves nothing
+    abbrev cause_of : ParseFault → Cause
+    cause_of parse.TooLong = TooLong
+    cause_of parse.OutOfSheet = OutOfSheet
+    cause_of parse.NumberRange = NumberRange
+    cause_of parse.TooDeep = TooDeep
+    cause_of parse.Syntax = Syntax
+    cause_of parse.Memory = LeavesSheet
+
+    same_fault : (e : ParseFault) → HasFault text e ↔ Holds s (cause_of e) set
+    same_fault parse.TooLong = (λ h. h, λ h. h)
+    same_fault parse.OutOfSheet = (λ h. h, λ h. h)
+    same_fault parse.NumberRange = (λ h. h, λ h. h)
+    same_fault parse.TooDeep = (λ h. h, λ h. h)
+    same_fault parse.Syntax = (λ h. h, λ h. h)
+    same_fault parse.Memory = (λ h. h, λ h. h)
+
+    first_of : (xs : List ParseFault) (e : ParseFault) → IsFirstFault text xs e → IsFirstOf s set (map cause_of xs ++ LeavesSheet ∷ last) (cause_of e)
+    first_of [] e h = absurd h
+    first_of (x ∷ xs) e (inl h) = inl ((same_fault x).0 h.0, ap cause_of h.1)
+    first_of (x ∷ xs) e (inr h) = inr (λ k. h.0 ((same_fault x).1 k), first_of xs e h.1)
+
+    by_content : (r : Result Content ParseFault) → IsAnsweredAs text r → IsStep s set (set_by r)
+    by_content (Ok content) h = putting content h.0 h.1
+    by_content (Err parse.TooLong) h = (TooLong, front TooLong (first_of faults parse.TooLong h), refl)
+    by_content (Err parse.OutOfSheet) h = (OutOfSheet, front OutOfSheet (first_of faults parse.OutOfSheet h), refl)
+    by_content (Err parse.NumberRange) h = (NumberRange, front NumberRange (first_of faults parse.NumberRange h), refl)
+    by_content (Err parse.TooDeep) h = (TooDeep, front TooDeep (first_of faults parse.TooDeep h), refl)
+    by_content (Err parse.Syntax) h = (Syntax, front Syntax (first_of faults parse.Syntax h), refl)
+    by_content (Err parse.Memory) h = absurd (is_fault text faults parse.Memory h)
 
 -- an empty text, and one that isn't
-step : (s : State) (force : Bool) (c : Cell) (text : Bytes) → is_outside c ≡ false → (r : Result Content ParseFault) → IsContent text r → IsStep s (Set force c text) (set_answer s force (address c) text r)
+step : (s : State) (force : Bool) (c : Cell) (text : Bytes) → is_outside c ≡ false → (r : Result Content ParseFault) → IsAnsweredAs text r → IsStep s (Set force c text) (set_answer s force (address c) text r)
 step s force c [] inside r is = (BadCommand, inr (λ h. h, inl (tt, refl)), refl)
 step s force c (b ∷ bs) inside r is =
     let some : (length (b ∷ bs) == 0) ≡ false = grind (arith, nat_tests) in
@@ -159,7 +144,7 @@ module _ (s : State) (force : Bool) (c : Cell) where
     placed false o a =
         let text : Bytes = b ∷ bs in
         let r = content_read text in
-        let is : IsContent text r = (content_is_one text r).1 refl in
+        let is : IsAnsweredAs text r = (content_is_one text r).1 refl in
         same_answers s (Set force c text) (one_done s force c text) (old.Set force (address c) text) (set_answer s force (address c) text r)
         (record { read = r; is_read = is; answered = refl }) (step s force c text o r is) a
 

@@ -12,7 +12,8 @@ use Rattle.wi_parser.specs.Symbol.{Symbol}
 use Rattle.wi_parser.specs.Nesting.{max_depth, is_too_deep}
 use Rattle.wi_parser.specs.Inner.Reader.{whole}
 use Rattle.wi_parser.specs.Inner.FormulaText.{after, after_equals, formula_symbols}
-use Rattle.wi_parser.specs.Limits.{max_formula, refusal_of}
+use Rattle.wi_parser.specs.Inner.Refusals.{refusal_of}
+use Rattle.wi_parser.specs.Limits.{max_formula}
 
 abbrev pub unless_refused : Option ParseFault → Option Tree → Result Tree ParseFault
 unless_refused (Some e) found = Err e

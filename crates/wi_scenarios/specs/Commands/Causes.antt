@@ -1,12 +1,16 @@
 -- For which causes a command is refused, and which of them is answered.
-use Rattle.std.specs.Prelude.{◌≡◌, ◌≢◌, ◌*◌, ◌<◌, ◌≤◌, ◌⊎◌, ℕ, Bool, false, not, IsTrue, ◌||◌, ◌&&◌, ◌==◌, List, [], ◌∷◌, length, Option, Some, None, Err, codes}
-use Rattle.std.specs.List.{Any, list_any}
+use Rattle.std.specs.Prelude.{◌≡◌, ◌≢◌, ◌*◌, ◌<◌, ◌≤◌, ◌⊎◌, ℕ, Bool, false, not, IsTrue, ◌||◌, ◌&&◌, ◌==◌, List, [], ◌∷◌, length, Option, Some, None, codes}
+use Rattle.std.specs.List.{Any, Contains, list_any}
 use Rattle.std.specs.Str.{IsUtf8}
 use Rattle.wi_fraction.specs.Text.{Bytes}
 use Rattle.wi_values.specs.Address.{size_of, cells_of}
 use Rattle.wi_values.specs.Imported.{IsImported}
 use Rattle.wi_parser.specs.declared.fault.ParseFault.TheVariants as parse
-use Rattle.wi_parser.specs.Contents.{IsContent}
+use Rattle.wi_parser.specs.Contents.{HasSymbols, IsTooLong}
+use Rattle.wi_parser.specs.Nesting.{is_too_deep}
+use Rattle.wi_parser.specs.Spelling.{IsSpelling}
+use Rattle.wi_parser.specs.Symbol.{bad_token}
+use Rattle.wi_parser.specs.Tree.{Tree}
 use Rattle.wi_import.specs.Fields.{IsInside}
 use Rattle.wi_edit_log.specs.EditLog.{first_stale}
 use Rattle.wi_scenario_list.specs.Scenarios.{has_scenario, is_full}
@@ -89,16 +93,16 @@ module _ (s : State) where
   -- A field isn't UTF-8.
   Holds BadField (Csv force (Some at) n lines) = Any (λ f. IsUtf8 f.bytes → ⊥) (fields at lines)
   -- A text or formula is too long.
-  Holds TooLong (Set force at text) = IsContent text (Err parse.TooLong)
+  Holds TooLong (Set force at text) = IsTooLong text
   Holds TooLong (Scenario name at (b ∷ bs)) = IsImported (b ∷ bs) None
   Holds TooLong (Csv force (Some at) n lines) = Any (λ f. IsImported f.bytes None) (fields at lines)
   -- A formula's address, or a field of an import, lies outside the sheet.
-  Holds OutOfSheet (Set force at text) = IsContent text (Err parse.OutOfSheet)
+  Holds OutOfSheet (Set force at text) = HasSymbols text (λ ts. Contains ts (bad_token parse.OutOfSheet))
   Holds OutOfSheet (Csv force (Some at) n lines) = Any (λ f. IsInside f → ⊥) (fields at lines)
   -- A formula's number doesn't fit; its nesting; its syntax.
-  Holds NumberRange (Set force at text) = IsContent text (Err parse.NumberRange)
-  Holds TooDeep (Set force at text) = IsContent text (Err parse.TooDeep)
-  Holds Syntax (Set force at text) = IsContent text (Err parse.Syntax)
+  Holds NumberRange (Set force at text) = HasSymbols text (λ ts. Contains ts (bad_token parse.NumberRange))
+  Holds TooDeep (Set force at text) = HasSymbols text (λ ts. IsTrue (is_too_deep ts))
+  Holds Syntax (Set force at text) = HasSymbols text (λ ts. (t : Tree) → IsSpelling t ts → ⊥)
   -- A filled formula's reference would leave the sheet.
   Holds LeavesSheet (Fill force from rect) = Any (λ to. copy_in s (address from) to ≡ None) (cells_of (area rect))
   -- The edit names a stale cell, and isn't forced.

@@ -1,5 +1,5 @@
 -- What the commands that edit the sheet name and put.
-use Rattle.std.specs.Prelude.{◌≡◌, ◌+◌, ℕ, pos, ◌-ℤ◌, Bool, false, List, [], ◌∷◌, ◌++◌, map, filter, Option, Some, None, Ok}
+use Rattle.std.specs.Prelude.{◌≡◌, ◌+◌, ℕ, pos, ◌-ℤ◌, Bool, false, List, [], ◌∷◌, ◌++◌, map, filter, Option, Some, None}
 use Rattle.std.specs.List.{AllZip, concat}
 use Rattle.std.specs.Map.{keys_of}
 use Rattle.wi_fraction.specs.Text.{Bytes}
@@ -9,7 +9,7 @@ use Rattle.wi_parser.specs.Contents.{IsContent}
 use Rattle.wi_parser.specs.Sheet.{Sheet, content_of}
 use Rattle.wi_csv.specs.Records.{recs}
 use Rattle.wi_import.specs.Fields.{Field, fields_from, areas_from}
-use Rattle.wi_import.specs.Imports.{AreChanges}
+use Rattle.wi_import.specs.Imports.{IsChange}
 use Rattle.wi_store.specs.Store.{edited, without_empty}
 use Rattle.wi_scenarios.specs.State.{State}
 use Rattle.wi_scenarios.specs.Fill.{copied}
@@ -46,11 +46,11 @@ module _ (s : State) where
       copied (pos (row_of to) -ℤ pos (row_of from)) (pos (column_of to) -ℤ pos (column_of from)) (content_of s.stored.sheet from)
 
   abbrev pub Puts : Command → List Put → Type 0
-  Puts (Set force at text) puts = (c : Content) × IsContent text (Ok c) × (puts ≡ (address at, Some c) ∷ [])
+  Puts (Set force at text) puts = (c : Content) × IsContent text c × (puts ≡ (address at, Some c) ∷ [])
   Puts (Clear force rect) puts = puts ≡ map (λ a. (a, None)) (filter (is_within (area rect)) (keys_of s.stored.sheet))
   Puts (Fill force from rect) puts =
       AllZip (λ to put. (put.0 ≡ to) × (copy_in (address from) to ≡ Some put.1)) (cells_of (area rect)) puts
-  Puts (Csv force (Some at) n lines) puts = AreChanges (fields at lines) puts
+  Puts (Csv force (Some at) n lines) puts = AllZip IsChange (fields at lines) puts
   Puts c puts = ⊥
 
   -- the sheet after an edit, and the state, whose log has it
