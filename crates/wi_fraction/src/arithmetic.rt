@@ -15,17 +15,22 @@ impl Fraction {
     /// The sum, which overflows where the least common multiple of the denominators, a numerator scaled to it, or
     /// the sum of the two is too large.
     #[tactic(auto, using(crate::proofs::Values::sum_value))]
+    #[inline(always)]
     pub fn checked_add(self, other: Fraction) -> Result<Fraction, FractionError>
         ensures value { result ≡ ok_or (sum_of self other) FractionError.Overflow }
         ensures exact { IfOk result
             (IsValue (self.num *ℤ pos other.den +ℤ other.num *ℤ pos self.den)
             (self.den * other.den)) }
     {
+        if self.denominator() == 1 && other.denominator() == 1 {
+            return self.whole_sum(other).ok_or(FractionError::Overflow);
+        }
         self.sum(other).ok_or(FractionError::Overflow)
     }
 
     /// The difference, which overflows where the sum with the second negated does.
     #[tactic(auto, using(crate::proofs::Values::difference_value))]
+    #[inline(always)]
     pub fn checked_sub(self, other: Fraction) -> Result<Fraction, FractionError>
         ensures value { result ≡ ok_or (sum_of self (negated other)) FractionError.Overflow }
         ensures exact { IfOk result
@@ -37,6 +42,7 @@ impl Fraction {
 
     /// The product, which overflows where it does not fit in lowest terms.
     #[tactic(auto, using(crate::proofs::Values::product_value))]
+    #[inline(always)]
     pub fn checked_mul(self, other: Fraction) -> Result<Fraction, FractionError>
         ensures value { result ≡ ok_or (product_of self other) FractionError.Overflow }
         ensures exact { IfOk result (IsValue (self.num *ℤ other.num) (self.den * other.den)) }
@@ -49,6 +55,11 @@ impl Fraction {
             numerator: c,
             denominator: d,
         } = other.parts();
+        if b == 1 && d == 1 {
+            return whole_product((a < 0) != (c < 0), a.unsigned_abs(), c.unsigned_abs()).ok_or(
+                FractionError::Overflow,
+            );
+        }
         multiplied((a < 0) != (c < 0), a.unsigned_abs(), b, c.unsigned_abs(), d).ok_or(
             FractionError::Overflow,
         )
@@ -69,6 +80,7 @@ impl Fraction {
     }
 
     /// The number with the other sign.
+    #[inline(always)]
     pub fn neg(self) -> Fraction
         ensures { result ≡ negated self }
     {
@@ -83,6 +95,18 @@ impl Fraction {
         Fraction::of(parts)
     }
 
+    /// The sum of two whole numbers.
+    #[inline(always)]
+    fn whole_sum(self, other: Fraction) -> Option<Fraction>
+        requires first { self.den ≡ 1 }
+        requires second { other.den ≡ 1 }
+        ensures { result ≡ sum_of self other }
+    {
+        let total = total(self.parts().numerator, other.parts().numerator)?;
+        Some(integer(total))
+    }
+
+    #[inline(always)]
     fn sum(self, other: Fraction) -> Option<Fraction>
         ensures { result ≡ sum_of self other }
     {
@@ -103,13 +127,11 @@ impl Fraction {
             denominator: b,
         } = self.parts();
         let total = total(a, other.parts().numerator)?;
-        if b == 1 {
-            return Some(integer(total));
-        }
         reduced(total < 0, total.unsigned_abs(), b)
     }
 
     /// The sum over the least common multiple of the denominators.
+    #[inline(never)]
     fn unlike_sum(self, other: Fraction) -> Option<Fraction>
         ensures { result ≡ sum_of self other }
     {
@@ -145,6 +167,7 @@ impl Fraction {
 }
 
 /// The product of a/b and c/d, which are in lowest terms, with that sign.
+#[inline(never)]
 pub(crate) fn multiplied(negative: bool, a: u128, b: u128, c: u128, d: u128) -> Option<Fraction>
     requires first_above_zero { 0 < b }
     requires second_above_zero { 0 < d }
@@ -162,6 +185,7 @@ pub(crate) fn multiplied(negative: bool, a: u128, b: u128, c: u128, d: u128) -> 
 }
 
 /// The product of two whole numbers with that sign.
+#[inline(always)]
 fn whole_product(negative: bool, a: u128, b: u128) -> Option<Fraction>
     ensures { result ≡ number_of (signed negative (a * b)) 1 }
 {
@@ -185,6 +209,7 @@ fn cancelled_product(negative: bool, a: u128, b: u128, c: u128, d: u128) -> Opti
 }
 
 /// The product, where it is small enough.
+#[inline(always)]
 fn product(a: u128, b: u128) -> Option<u128>
     ensures { result ≡ bounded (a * b) }
 {
@@ -201,6 +226,7 @@ fn scaled(n: i128, by: u128) -> Option<i128>
 }
 
 /// The sum of two numerators, where it is small enough.
+#[inline(always)]
 fn total(a: i128, b: i128) -> Option<i128>
     ensures { result ≡ int_bounded (a +ℤ b) }
 {
@@ -208,6 +234,7 @@ fn total(a: i128, b: i128) -> Option<i128>
 }
 
 /// The number, where it is small enough.
+#[inline(always)]
 fn bounded(n: i128) -> Option<i128>
     ensures { result ≡ int_bounded n }
 {

@@ -43,6 +43,7 @@ pub(crate) fn number_at(negative: bool, size: u128, denominator: u128) -> Option
 }
 
 /// The whole number as a fraction.
+#[inline(always)]
 pub(crate) fn integer(n: i128) -> Fraction
     requires { unsigned_abs n ≤ max_size }
     ensures numerator { result.num ≡ n }

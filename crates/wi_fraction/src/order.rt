@@ -62,6 +62,7 @@ impl Ord for Fraction {
 
     ghost matches_eq = { cross_same_parts };
 
+    #[inline(always)]
     fn cmp(&self, other: &Fraction) -> Ordering {
         let Parts {
             numerator: m,
@@ -96,6 +97,7 @@ impl PartialOrd for Fraction {
 }
 
 /// The order of a/b and c/d. What is left over the whole parts is compared upside down.
+#[inline(never)]
 fn compare_sizes(a: u128, b: u128, c: u128, d: u128) -> Ordering
     requires first_above_zero { 0 < b }
     requires second_above_zero { 0 < d }
