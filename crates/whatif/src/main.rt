@@ -1,5 +1,5 @@
-//! The program: runs the script that standard input gives on a new workbook, after one that its command-line arguments may name,
-//! and writes the replies to standard output.
+//! The program: runs the script that standard input gives on a new workbook, after one that its command-line arguments
+//! may name, and writes the replies to standard output.
 #![tactic(auto)]
 
 mod own;

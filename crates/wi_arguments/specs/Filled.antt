@@ -14,8 +14,8 @@ abbrev pub ComesBefore : ℕ → Option ℕ → Type 0
 ComesBefore a None = Unit {0}
 ComesBefore a (Some c) = a < c
 
--- What is found is the first cell of the rectangle, at `from` or after it, that isn't known to be Empty: it is none that is,
--- and each cell that is passed over is.
+-- What is found is the first cell of the rectangle, at `from` or after it, that isn't known to be Empty: it is none
+-- that is, and each cell that is passed over is.
 pub record IsNextFilled (known : ℕ → Option Value) (r : Area) (from : ℕ) (found : Option ℕ) : Type 0 where
   pub inside : IfSome found (λ c. (is_within r c ≡ true) × (from ≤ c))
   pub filled : IfSome found (λ c. is_known_empty (known c) ≡ false)

@@ -14,8 +14,8 @@ abbrev pub to_come : Area → Option ℕ → List ℕ
 to_come r None = []
 to_come r (Some c) = filter (λ a. nat_le c a) (cells_of r)
 
--- Whatever the cells hold of which this is known: the cells from `next` on make of the new state what those from `from` on
--- make of the old.
+-- Whatever the cells hold of which this is known: the cells from `next` on make of the new state what those from `from`
+-- on make of the old.
 abbrev pub HasTaken : {S : Type 0} → (S → ℕ → Value → S) → (ℕ → Option Value) → Area → S → Option ℕ → S → Option ℕ → Type 0
 HasTaken after known r old from new next = (cells : ℕ → Value) → KnownAgrees known cells → after_cells after cells new (to_come r next) ≡ after_cells after cells old (to_come r from)
 

@@ -50,14 +50,15 @@ pub trait Lookup {
         ensures { value_if_known result
             ≡ known_what_if self.now formula_cell (map addresses (map pair_of pairs.now)) };
 
-    /// The first cell of a rectangle in row-major order, at a cell or after it, that isn't known to be Empty, with what is known
-    /// of it. A replaced cell is what its replacement says. The work grows with the counts of replaced cells and of filled ones
-    /// that are passed over, and never with the size of the rectangle.
+    /// The first cell of a rectangle in row-major order, at a cell or after it, that isn't known to be Empty, with what
+    /// is known of it. A replaced cell is what its replacement says. The work grows with the counts of replaced cells
+    /// and of filled ones that are passed over, and never with the size of the rectangle.
     fn next_value(&self, area: Rect, from: Address) -> Option<(Address, LookedUp<'_>)>
         ensures next { IsNextFilled (known_cell self.now) area from (option_map (λ x. x.0) result) }
         ensures value { IfSome result (λ x. value_if_known x.1 ≡ known_cell self.now x.0) };
 
-    /// That cell alone, at the cost of `next_value`: it grows with the replaced cells and the filled ones that are passed over.
+    /// That cell alone, at the cost of `next_value`: it grows with the replaced cells and the filled ones that are
+    /// passed over.
     fn next_filled(&self, area: Rect, from: Address) -> Option<Address>
         ensures { IsNextFilled (known_cell self.now) area from result }
     {
@@ -67,8 +68,9 @@ pub trait Lookup {
         }
     }
 
-    /// Hands the next cells of a rectangle over, in row-major order, from one on until one is missing, and tells where to go on,
-    /// if it does. Those that are known to be Empty may be passed over. At most one `next_value` for each of the others.
+    /// Hands the next cells of a rectangle over, in row-major order, from one on until one is missing, and tells where
+    /// to go on, if it does. Those that are known to be Empty may be passed over. At most one `next_value` for each of
+    /// the others.
     fn hand_over<T: TakesCells>(
         &self,
         area: Rect,

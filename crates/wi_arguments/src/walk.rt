@@ -10,8 +10,9 @@ use crate::lookup::Lookup;
 use crate::taker::TakesCells;
 use wi_values::{Address, Rect};
 
-/// Hands the cells of a rectangle over, in row-major order, until one is missing. Those that are known to be Empty may be passed
-/// over. It calls `hand_over` until none is left, which costs at most one `next_value` for each of the others.
+/// Hands the cells of a rectangle over, in row-major order, until one is missing. Those that are known to be Empty may
+/// be passed over. It calls `hand_over` until none is left, which costs at most one `next_value` for each of the
+/// others.
 pub fn take_cells<L: Lookup, T: TakesCells>(
     area: Rect,
     lookup: &L,

@@ -52,7 +52,8 @@ kept es n = record { entries = es; capacity = n }
 abbrev pub kept_code : Coded Key → Coded Value → Coded KeptValues
 kept_code k v = code_by (Entries × ℕ) (coded× (coded_list (coded× k v)) coded_ℕ) (λ m. (m.entries, m.capacity)) (λ p. kept p.0 p.1) (λ _. refl)
 
--- what stands in a circle, of which the one at a place came first, then those behind it, and then those before it: the last that came first
+-- what stands in a circle, of which the one at a place came first, then those behind it, and then those before it: the
+-- last that came first
 abbrev pub latest : {X : Type 0} → ℕ → List X → List X
 latest oldest xs = reverse (drop oldest xs ++ take oldest xs)
 
@@ -76,7 +77,8 @@ last_entry es = slice_get es (length es - 1)
 abbrev pub len_after : KeptValues → Key → ℕ
 len_after m k = if is_some (value_for m.entries k) then length m.entries else min (length m.entries + 1) m.capacity
 
--- the keys after one is kept for k, the latest first: one that was there stays in its place, and a new one comes before as many as there is room for
+-- the keys after one is kept for k, the latest first: one that was there stays in its place, and a new one comes before
+-- as many as there is room for
 abbrev pub keys_after : KeptValues → Key → List Key
 keys_after m k = if is_some (value_for m.entries k) then keys_of m.entries else k ∷ take (m.capacity - 1) (keys_of m.entries)
 

@@ -14,18 +14,21 @@ use std::marker::Model;
 use wi_values::Value;
 use wi_worlds::World;
 
-/// For how many values the memory may be to be used again. It is then at most some 100 KB for the list, and 200 KB for the table.
+/// For how many values the memory may be to be used again. It is then at most some 100 KB for the list, and 200 KB for
+/// the table.
 const MAX_REUSED: usize = 1_024;
 
 /// How many values are looked at one by one, since that is less work than to move them into the table.
 const FEW: usize = 8;
 
-/// Values by keys, with room that is made before one goes. Most that go are never asked for, since they stand under replacements of
-/// earlier calls: so each goes into a list, and only where some may be asked for are they moved into a table.
+/// Values by keys, with room that is made before one goes. Most that go are never asked for, since they stand under
+/// replacements of earlier calls: so each goes into a list, and only where some may be asked for are they moved into a
+/// table.
 #[derive(Drop)]
 pub struct GivenUp {
     table: IndexMap<Key, Value>,
-    // Those that went since the others were moved, in the order in which they went. For a key the last counts, and then the table.
+    // Those that went since the others were moved, in the order in which they went. For a key the last counts, and then
+    // the table.
     list: Vec<(Key, Value)>,
     // A bit for the replacements of each key here, chosen by their hash.
     worlds: u64,
@@ -60,9 +63,10 @@ impl GivenUp {
         }
     }
 
-    /// The value that is there for a key. It is one test of a bit where no replacements of those that went have the bit of the key's, as is
-    /// mostly so where none are the same. Else it is expected constant time, beside the hash of the key and a comparison with each that went
-    /// since some were moved: with the last eight at most where `catch_up` was called for the key since the last went.
+    /// The value that is there for a key. It is one test of a bit where no replacements of those that went have the bit
+    /// of the key's, as is mostly so where none are the same. Else it is expected constant time, beside the hash of the
+    /// key and a comparison with each that went since some were moved: with the last eight at most where `catch_up` was
+    /// called for the key since the last went.
     #[inline(always)]
     pub fn look(&self, key: &Key) -> Option<&Value>
         ensures { option_copied result ≡ value_for self.now.entries key.now }
@@ -73,9 +77,9 @@ impl GivenUp {
         None
     }
 
-    /// Prepares a look for a key: if some that went may have its replacements, they are more than a few, and none of the last few is of the key, all
-    /// are moved into the table. Each is moved at most once, in expected constant time, beside the hash of its key. If memory runs out, all is as
-    /// before.
+    /// Prepares a look for a key: if some that went may have its replacements, they are more than a few, and none of
+    /// the last few is of the key, all are moved into the table. Each is moved at most once, in expected constant time,
+    /// beside the hash of its key. If memory runs out, all is as before.
     #[inline(always)]
     pub fn catch_up(&mut self, key: &Key) -> Result<(), AllocError>
         ensures { self.new.entries ≡ self.old.entries }
@@ -105,7 +109,8 @@ impl GivenUp {
         self.list.push_reserved(gone);
     }
 
-    /// Takes the values away. The memory for them is used again, unless it was for many. The work grows with their count.
+    /// Takes the values away. The memory for them is used again, unless it was for many. The work grows with their
+    /// count.
     pub fn clear(&mut self, alloc: Global)
         ensures { self.new.entries ≡ [] }
     {
@@ -132,7 +137,8 @@ fn has_bit(bits: u64, bit: u32) -> bool
     (bits >> bit) & 1 == 1
 }
 
-/// Whether more than a few went, with these bits, some may have a key's replacements, and none of the last few is of the key.
+/// Whether more than a few went, with these bits, some may have a key's replacements, and none of the last few is of
+/// the key.
 fn are_asked_for(list: &[(Key, Value)], worlds: u64, key: &Key) -> bool {
     FEW < list.len() && has_bit(worlds, world_bit(&key.world)) && !is_among_last(list, key)
 }
@@ -200,7 +206,8 @@ fn move_all(
     Ok(())
 }
 
-/// Puts a value into the table for a key, in the place of an earlier one. Takes no memory. Expected constant time, beside the hash of the key.
+/// Puts a value into the table for a key, in the place of an earlier one. Takes no memory. Expected constant time,
+/// beside the hash of the key.
 fn put_value(table: &mut IndexMap<Key, Value>, key: Key, value: Value)
     requires { 1 ≤ spare table.old }
     ensures entries { table.new.entries ≡ insert_entry same_key table.old.entries key value }

@@ -11,8 +11,8 @@ use std::alloc::{AllocError, Global};
 use std::marker::Model;
 use wi_values::Value;
 
-/// Values by keys, of which there are at most so many as the capacity. Where one has to go, it is the entry that was kept
-/// longest ago, however often it was looked at since: a look leaves the order as it is.
+/// Values by keys, of which there are at most so many as the capacity. Where one has to go, it is the entry that was
+/// kept longest ago, however often it was looked at since: a look leaves the order as it is.
 #[derive(Drop)]
 pub struct Kept {
     // A new entry goes last, and where the list is full into the place of the oldest.
@@ -63,9 +63,9 @@ impl Kept {
         self.capacity <= self.entries.len()
     }
 
-    /// Keeps a value for a key, in the place of an earlier one, and gives the entry that goes for it. A new key that comes to a full
-    /// list takes the place of the one that was kept longest ago. If memory runs out, all stays as it was. Expected constant time
-    /// over many calls, beside the hash of the key.
+    /// Keeps a value for a key, in the place of an earlier one, and gives the entry that goes for it. A new key that
+    /// comes to a full list takes the place of the one that was kept longest ago. If memory runs out, all stays as it
+    /// was. Expected constant time over many calls, beside the hash of the key.
     #[inline(always)]
     pub fn keep(&mut self, key: Key, value: Value) -> Result<Option<(Key, Value)>, AllocError>
         ensures found { OnOk result (value_for self.new.entries key ≡ Some value) }

@@ -3,8 +3,8 @@
 use wi_values::Address;
 use wi_worlds::World;
 
-/// A cell, its generation, which is the number of the last accepted edit that changed the cell or something that it depends on,
-/// and the replacements of cells that it reaches.
+/// A cell, its generation, which is the number of the last accepted edit that changed the cell or something that it
+/// depends on, and the replacements of cells that it reaches.
 #[derive(PartialEq, Eq, Drop)]
 pub struct Key {
     pub cell: Address,

@@ -41,8 +41,8 @@ impl RunTable {
         }
     }
 
-    /// The value that is kept for a key. Expected constant time, beside the hash of the key, which isn't taken where the table
-    /// is empty.
+    /// The value that is kept for a key. Expected constant time, beside the hash of the key, which isn't taken where
+    /// the table is empty.
     pub fn look(&self, key: &Key) -> Option<&Value>
         ensures { option_copied result ≡ value_for self.now key.now }
     {

@@ -1,4 +1,5 @@
--- A script's commands one after another: what the laws for these are told of them, a run as events, and each scenario's chain.
+-- A script's commands one after another: what the laws for these are told of them, a run as events, and each scenario's
+-- chain.
 use Rattle.std.specs.Prelude.{◌≡◌, Bool, true, false, if◌then◌else◌, List, [], ◌∷◌, map, Option, Some, None}
 use Rattle.std.specs.List.{flat_map}
 use Rattle.wi_values.specs.Address.{Area}

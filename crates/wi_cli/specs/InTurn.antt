@@ -5,8 +5,8 @@ use Rattle.wi_cli.specs.declared.fault.RunFault.{RunFault}
 use Rattle.wi_cli.specs.Lines.{Bytes}
 use Rattle.wi_cli.specs.Outcome.{IsRun}
 
--- Where the first script was run to its end, the second is run. After a fault in the first that fault is the outcome, and
--- nothing is read of the second.
+-- Where the first script was run to its end, the second is run. After a fault in the first that fault is the outcome,
+-- and nothing is read of the second.
 abbrev pub GoesOn : {R W : Type 0} → (remaining : R → Option Bytes) → (read_failed : R → Bool) → (contents : W → Option Bytes)
     → (write_failed flushed : W → Bool) → (first r : Result (Unit {0}) RunFault) → (source source' : R) → (sink sink' : W)
     → (s t : State) → Type 0

@@ -9,8 +9,8 @@ use Rattle.wi_cli.specs.Lines.{raw_lines, is_whole, max_lines, Bytes}
 use Rattle.wi_cli.specs.Script.{AreCommands}
 use Rattle.wi_cli.specs.Reply.{Replies}
 
--- The commands are answered one after another, and `out` is their replies. Where the sink fails this may end early: of a reply a
--- part is written, and nothing is served after it.
+-- The commands are answered one after another, and `out` is their replies. Where the sink fails this may end early: of
+-- a reply a part is written, and nothing is served after it.
 abbrev pub Writes : Bool → State → List Command → Bytes → State → Type 0
 Writes fails s [] out t = (out ≡ []) × (t ≡ s)
 Writes fails s (c ∷ cs) out t =

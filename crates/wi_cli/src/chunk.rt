@@ -41,7 +41,8 @@ impl Chunk {
         }
     }
 
-    /// Reads on if nothing is left, and answers whether there is a byte then. There is none only at the end of the input.
+    /// Reads on if nothing is left, and answers whether there is a byte then. There is none only at the end of the
+    /// input.
     pub(crate) fn fill<R: Source>(&mut self, source: &mut R) -> Result<bool, RunFault>
         requires { R.has_failed source.old ≡ false }
         ensures kept { Takes self.old (R.remaining source.old)

@@ -54,8 +54,8 @@ fn append(bytes: &mut Vec<u8>, line: &[u8], whole: bool) -> Result<(), AllocErro
     Ok(())
 }
 
-/// Makes room for so many bytes more. Where memory runs out, what can be found again is freed, and memory is asked for once more when they
-/// are appended.
+/// Makes room for so many bytes more. Where memory runs out, what can be found again is freed, and memory is asked for
+/// once more when they are appended.
 fn reserve_bytes<C: Calculator>(
     bytes: &mut Vec<u8>,
     count: usize,
@@ -70,8 +70,8 @@ fn reserve_bytes<C: Calculator>(
     }
 }
 
-/// Holds one more line, if lines are wanted and it is not too long. Where memory runs out, what can be found again is freed; where it runs
-/// out still, the lines before go too.
+/// Holds one more line, if lines are wanted and it is not too long. Where memory runs out, what can be found again is
+/// freed; where it runs out still, the lines before go too.
 fn hold<C: Calculator>(
     bytes: &mut Vec<u8>,
     wanted: bool,
@@ -162,8 +162,9 @@ impl DataLines {
     }
 }
 
-/// Takes the data lines that a line asks for, as far as there are any, and tells whether the last LF came. The line's own is
-/// told by `whole`. Where memory runs out for them, all that can be found again is freed, with the memory of bytes that aren't used any more.
+/// Takes the data lines that a line asks for, as far as there are any, and tells whether the last LF came. The line's
+/// own is told by `whole`. Where memory runs out for them, all that can be found again is freed, with the memory of
+/// bytes that aren't used any more.
 pub(crate) fn read_data<R: Source, C: Calculator>(
     script: &mut LineReader,
     source: &mut R,

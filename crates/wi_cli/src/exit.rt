@@ -58,8 +58,8 @@ pub(crate) fn new_workbook(
     Workbook::new(alloc, calculator)
 }
 
-/// Runs a script on a new workbook, within the standard limits, that keeps so many values. The outcome and the costs are those of `run`. The
-/// workbook's memory is freed at the end of the process, not before.
+/// Runs a script on a new workbook, within the standard limits, that keeps so many values. The outcome and the costs
+/// are those of `run`. The workbook's memory is freed at the end of the process, not before.
 pub fn run_new<R: Source, W: Sink>(
     alloc: Global,
     keep: usize,

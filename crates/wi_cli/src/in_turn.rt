@@ -14,8 +14,8 @@ use wi_devices::{Sink, Source};
 use wi_propagate::Calculator;
 use wi_scenarios::Workbook;
 
-/// Runs the script that is loaded, and then the other one, on one workbook. After a fault in the first nothing is read of the
-/// second. The limit of lines counts for each of them apart. The costs are those of two calls of `run`.
+/// Runs the script that is loaded, and then the other one, on one workbook. After a fault in the first nothing is read
+/// of the second. The limit of lines counts for each of them apart. The costs are those of two calls of `run`.
 pub fn run_in_turn<L: Source, R: Source, W: Sink, C: Calculator>(
     alloc: Global,
     load: &mut L,
@@ -36,8 +36,8 @@ pub fn run_in_turn<L: Source, R: Source, W: Sink, C: Calculator>(
     run(alloc, reader, writer, book)
 }
 
-/// Runs two scripts in turn on a new workbook, within the standard limits, that keeps so many values. The outcome and the costs are those of
-/// `run_in_turn`. The workbook's memory is freed at the end of the process, not before.
+/// Runs two scripts in turn on a new workbook, within the standard limits, that keeps so many values. The outcome and
+/// the costs are those of `run_in_turn`. The workbook's memory is freed at the end of the process, not before.
 pub fn run_new_in_turn<L: Source, R: Source, W: Sink>(
     alloc: Global,
     keep: usize,
@@ -50,7 +50,8 @@ pub fn run_new_in_turn<L: Source, R: Source, W: Sink>(
     requires reads { R.has_failed reader.old ≡ false }
     requires writes { W.has_failed writer.old ≡ false }
 
-    // The bytes written are the replies to the commands of the one, from an empty sheet on, and then to those of the other.
+    // The bytes written are the replies to the commands of the one, from an empty sheet on, and then to those of the
+    // other.
     ensures runs { (last : State)
         × RunInTurn L.remaining L.has_failed R.remaining R.has_failed
         W.contents W.has_failed W.flushed result.outcome load.old load.new

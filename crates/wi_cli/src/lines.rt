@@ -58,8 +58,8 @@ fn take_line<R: Source>(
     Ok(true)
 }
 
-/// Takes the bytes that are left up to the next LF, and with it, or all of them, and adds them to the line without the LF.
-/// Tells whether the LF came.
+/// Takes the bytes that are left up to the next LF, and with it, or all of them, and adds them to the line without the
+/// LF. Tells whether the LF came.
 fn take_part(chunk: &mut Chunk, line: &mut Vec<u8>) -> bool
     requires { MAX_LINE + 1 ≤ vec_capacity line.old }
     ensures took { TookPart result chunk.old chunk.new line.old.items line.new.items }

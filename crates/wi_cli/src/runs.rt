@@ -113,11 +113,11 @@ fn send<W: Sink>(writer: &mut W) -> Result<(), RunFault>
     }
 }
 
-/// Runs a script on a workbook. It takes each line as it comes, with its data lines, serves it and writes its reply, then
-/// goes on to the next; the contract tells what is written, not when. On a fault the replies to the commands before it stand; where a
-/// write failed, the last of them may be cut short, and nothing is served after it. Beside what its command does, a line costs time
-/// that grows with its length. Memory is taken for a line of the greatest length, once, and as much as the data lines of one
-/// `csv` and the records of one command want.
+/// Runs a script on a workbook. It takes each line as it comes, with its data lines, serves it and writes its reply,
+/// then goes on to the next; the contract tells what is written, not when. On a fault the replies to the commands
+/// before it stand; where a write failed, the last of them may be cut short, and nothing is served after it. Beside
+/// what its command does, a line costs time that grows with its length. Memory is taken for a line of the greatest
+/// length, once, and as much as the data lines of one `csv` and the records of one command want.
 pub fn run<R: Source, W: Sink, C: Calculator>(
     alloc: Global,
     reader: &mut R,

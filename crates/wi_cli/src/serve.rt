@@ -90,8 +90,8 @@ fn execute_twice<C: Calculator>(
     done
 }
 
-/// Serves a command that was read, or refused so, and leaves its records in `out`. Where memory runs out, all that can be found again is given
-/// back, with the memory of bytes that aren't used any more, and the command is done once more.
+/// Serves a command that was read, or refused so, and leaves its records in `out`. Where memory runs out, all that can
+/// be found again is given back, with the memory of bytes that aren't used any more, and the command is done once more.
 pub(crate) fn serve<C: Calculator>(
     command: &Result<Command<'_>, Refusal>,
     book: &mut Workbook<C>,

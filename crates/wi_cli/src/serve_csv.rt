@@ -63,8 +63,8 @@ fn import_twice<C: Calculator>(
     done
 }
 
-/// Serves a line that asks for data lines. Where memory runs out, all that can be found again is freed, with the memory of bytes that aren't
-/// used any more, and the lines are imported once more.
+/// Serves a line that asks for data lines. Where memory runs out, all that can be found again is freed, with the memory
+/// of bytes that aren't used any more, and the lines are imported once more.
 pub(crate) fn serve_csv<C: Calculator>(
     book: &mut Workbook<C>,
     csv: &CsvLine,

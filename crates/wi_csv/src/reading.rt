@@ -8,10 +8,10 @@ use crate::fault::CsvFault;
 use csv::{ByteRecord, Error as CsvError, ReaderBuilder};
 use std::alloc::{AllocError, Global};
 
-/// The records of a text, each a list of its fields: commas between fields, double quotes around those that need them. A
-/// byte order mark at its front is taken off, an empty line is no record, lengths may differ, and nothing is trimmed. No
-/// text is refused for what it holds; `Read` comes only where `csv` refuses for another cause than memory. The contract speaks
-/// of the records alone, and promises nothing on an error. The work grows with the text.
+/// The records of a text, each a list of its fields: commas between fields, double quotes around those that need them.
+/// A byte order mark at its front is taken off, an empty line is no record, lengths may differ, and nothing is trimmed.
+/// No text is refused for what it holds; `Read` comes only where `csv` refuses for another cause than memory. The
+/// contract speaks of the records alone, and promises nothing on an error. The work grows with the text.
 pub fn records(alloc: Global, bytes: &[u8]) -> Result<Vec<Vec<Vec<u8>>>, CsvFault>
     ensures { IfOk result
         (λ rows. map (λ fields. map (λ f. f.items) fields.items) rows.items ≡ recs bytes.now) }
@@ -27,7 +27,7 @@ pub fn records(alloc: Global, bytes: &[u8]) -> Result<Vec<Vec<Vec<u8>>>, CsvFaul
     Ok(rows)
 }
 
-// Appends a copy of the record, where one was read.
+/// Appends a copy of the record, where one was read.
 fn push_copy(
     alloc: Global,
     read: Result<ByteRecord, CsvError>,
@@ -41,7 +41,7 @@ fn push_copy(
     Ok(())
 }
 
-// A copy of the fields of a record.
+/// A copy of the fields of a record.
 fn copied_fields(alloc: Global, row: &ByteRecord) -> Result<Vec<Vec<u8>>, AllocError>
     ensures { IfOk result (λ fields. map (λ f. f.items) fields.items ≡ fields_of row.now) }
 {

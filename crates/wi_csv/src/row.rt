@@ -21,7 +21,7 @@ pub fn push_record<F: AsSlice<u8>>(fields: &[F], out: &mut Vec<u8>) -> Result<()
     pushed
 }
 
-// Appends the record of these fields. On an error a part of it may be there.
+/// Appends the record of these fields. On an error a part of it may be there.
 fn push_all<F: AsSlice<u8>>(fields: &[F], out: &mut Vec<u8>) -> Result<(), AllocError>
     ensures ok { OnOk result (out.new.items ≡ out.old.items ++ row (map F.items fields.now)) }
     ensures kept { StartsWith out.new.items out.old.items }
@@ -34,7 +34,7 @@ fn push_all<F: AsSlice<u8>>(fields: &[F], out: &mut Vec<u8>) -> Result<(), Alloc
     out.extend_from_slice(b"\r\n")
 }
 
-// Appends a separator and a field in double quotes. On an error a part of them may be there.
+/// Appends a separator and a field in double quotes. On an error a part of them may be there.
 fn push_field(separator: &[u8], field: &[u8], out: &mut Vec<u8>) -> Result<(), AllocError>
     ensures ok { OnOk result (out.new.items ≡ out.old.items ++ separator.now ++ quoted field.now) }
     ensures kept { StartsWith out.new.items out.old.items }
@@ -48,7 +48,7 @@ fn push_field(separator: &[u8], field: &[u8], out: &mut Vec<u8>) -> Result<(), A
     Ok(())
 }
 
-// Appends a byte of a field, twice where it is a quote.
+/// Appends a byte of a field, twice where it is a quote.
 fn push_doubled(byte: u8, out: &mut Vec<u8>) -> Result<(), AllocError>
     ensures ok { OnOk result (out.new.items ≡ out.old.items ++ doubled byte) }
     ensures kept { StartsWith out.new.items out.old.items }

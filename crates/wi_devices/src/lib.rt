@@ -1,4 +1,5 @@
-//! What the bytes of a script are read from and what its replies are written to, and std's readers and writers as these.
+//! What the bytes of a script are read from and what its replies are written to, and std's readers and writers as
+//! these.
 #![tactic(auto)]
 
 mod device;

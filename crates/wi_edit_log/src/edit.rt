@@ -11,8 +11,8 @@ use crate::named::{Named, are_narrow};
 use crate::rising::are_rising;
 use wi_values::{Address, Rect, sooner};
 
-/// An edit: its session, what it named, and its run: how many edits in a row, up to this one and with it, are its session's, as
-/// far as 32 bits count.
+/// An edit: its session, what it named, and its run: how many edits in a row, up to this one and with it, are its
+/// session's, as far as 32 bits count.
 #[derive(Drop)]
 pub(crate) struct Edit {
     named: Named,

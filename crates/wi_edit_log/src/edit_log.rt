@@ -13,11 +13,11 @@ use wi_values::{Address, Rect};
 /// From so many edits on, their list grows by a sixteenth.
 const MANY: usize = 16_384;
 
-/// The edits in their order, each with its session, and the rectangles that it named as they were given. An edit takes 32
-/// bytes, and where it named another number of rectangles than one 24 more, and 16 for each. Once a session has asked (`catch_up`),
-/// each edit up to the last one of another session takes 4 more, and each cell that one of them named, if it named rectangles of
-/// 32 cells at most alone, some 36.
-/// The list of 16,384 edits or more has room for a sixteenth more at most, and what else grows for twice as much.
+/// The edits in their order, each with its session, and the rectangles that it named as they were given. An edit takes
+/// 32 bytes, and where it named another number of rectangles than one 24 more, and 16 for each. Once a session has
+/// asked (`catch_up`), each edit up to the last one of another session takes 4 more, and each cell that one of them
+/// named, if it named rectangles of 32 cells at most alone, some 36. The list of 16,384 edits or more has room for a
+/// sixteenth more at most, and what else grows for twice as much.
 #[derive(Drop)]
 pub struct EditLog {
     edits: Vec<Edit>,
@@ -81,10 +81,10 @@ impl EditLog {
         was
     }
 
-    /// Notes who edited which cell of narrow rectangles, as far as others than the session did, so that `first_stale` finds
-    /// that in one look for each cell. It is for the callers of `first_stale`, which answers the same without it. If memory
-    /// runs out, nothing is noted. The work grows with the cells of the edits that aren't noted yet, so that each is noted
-    /// once; where they are the session's own there is none.
+    /// Notes who edited which cell of narrow rectangles, as far as others than the session did, so that `first_stale`
+    /// finds that in one look for each cell. It is for the callers of `first_stale`, which answers the same without it.
+    /// If memory runs out, nothing is noted. The work grows with the cells of the edits that aren't noted yet, so that
+    /// each is noted once; where they are the session's own there is none.
     pub fn catch_up(&mut self, session: u32) -> Result<(), AllocError>
         ensures { self.new ≡ self.old }
     {
@@ -98,15 +98,15 @@ impl EditLog {
         self.edits.len() as u64
     }
 
-    /// The first of the cells, in row-major order, that an edit of another session names, not counting the first `since`
-    /// edits of the log. Takes no memory.
+    /// The first of the cells, in row-major order, that an edit of another session names, not counting the first
+    /// `since` edits of the log. Takes no memory.
     ///
-    /// Where each of the rectangles has 32 cells at most, each cell is one look for the edits of such rectangles, as far as
-    /// `catch_up` has noted them. The others are gone through from the last on, and each run of the session's own is one step,
-    /// as is each row of noted edits of such rectangles. For each other edit of another session every rectangle of the shorter of its list
-    /// and `cells` is looked for in the longer one. Where the longer rises, each rectangle below the one before, as an import
-    /// names them, that takes the logarithm of its length, and a step for each of its rectangles in the rows of the one that
-    /// is looked for, at most; where it doesn't, a step for each.
+    /// Where each of the rectangles has 32 cells at most, each cell is one look for the edits of such rectangles, as
+    /// far as `catch_up` has noted them. The others are gone through from the last on, and each run of the session's
+    /// own is one step, as is each row of noted edits of such rectangles. For each other edit of another session every
+    /// rectangle of the shorter of its list and `cells` is looked for in the longer one. Where the longer rises, each
+    /// rectangle below the one before, as an import names them, that takes the logarithm of its length, and a step for
+    /// each of its rectangles in the rows of the one that is looked for, at most; where it doesn't, a step for each.
     pub fn first_stale(&self, session: u32, since: u64, cells: &[Rect]) -> Option<Address>
         ensures { result ≡ first_stale self.now session since cells.now }
     {
@@ -122,8 +122,8 @@ impl EditLog {
     }
 }
 
-/// Puts an edit at the end. Where there are many and no room is left, it makes room for a sixteenth more, since an edit takes 32
-/// bytes. On an error all is as before.
+/// Puts an edit at the end. Where there are many and no room is left, it makes room for a sixteenth more, since an edit
+/// takes 32 bytes. On an error all is as before.
 fn push_edit(edits: &mut Vec<Edit>, edit: Edit) -> Result<(), AllocError>
     ensures ok { OnOk result (edits.new.items ≡ edits.old.items ++ edit ∷ []) }
     ensures err { OnErr result (edits.new.items ≡ edits.old.items) }

@@ -20,7 +20,8 @@ pub struct Named {
     areas: Repr,
 }
 
-/// Rectangles of which there are more than one, or none. They stand behind a box, so that an edit of one rectangle takes little.
+/// Rectangles of which there are more than one, or none. They stand behind a box, so that an edit of one rectangle
+/// takes little.
 #[derive(Drop)]
 struct Several {
     areas: Vec<Rect>,
@@ -60,8 +61,8 @@ impl Named {
         }
     }
 
-    /// The rectangles as they are given. The work grows with their count. Of more than one, or none, it takes a block of memory
-    /// beside their list.
+    /// The rectangles as they are given. The work grows with their count. Of more than one, or none, it takes a block
+    /// of memory beside their list.
     pub fn new(cells: Vec<Rect>) -> Result<Named, AllocError>
         ensures { IfOk result (λ n. n ≡ cells.items) }
     {
@@ -92,8 +93,9 @@ impl Named {
         }
     }
 
-    /// The first cell that they share with others, which may be told to rise. For each rectangle of the shorter list the work grows with
-    /// the longer's length; where that rises, with its logarithm and with how many of its rectangles meet the rows of this one.
+    /// The first cell that they share with others, which may be told to rise. For each rectangle of the shorter list
+    /// the work grows with the longer's length; where that rises, with its logarithm and with how many of its
+    /// rectangles meet the rows of this one.
     pub(crate) fn first_shared(&self, others: &[Rect], others_rise: bool) -> Option<Address>
         requires { others_rise ≡ true → are_rising others.now ≡ true }
         ensures { IsFirst (in_each self.now others.now) result }

@@ -13,8 +13,8 @@ use std::alloc::{AllocError, Global};
 use std::collections::HashMap;
 use wi_values::{Address, Rect, sooner};
 
-/// What is noted of a cell, over the edits of narrow rectangles that named it: how long the log was after the last of them, whose that one
-/// was, and how long the log was after the last of any other session, 0 where there is none.
+/// What is noted of a cell, over the edits of narrow rectangles that named it: how long the log was after the last of
+/// them, whose that one was, and how long the log was after the last of any other session, 0 where there is none.
 #[derive(Clone, Copy)]
 pub(crate) struct Last {
     length: u32,
@@ -24,9 +24,9 @@ pub(crate) struct Last {
 
 type Notes = HashMap<Address, Last>;
 
-/// What is noted of the first edits of a log, as many as `narrow` has entries. `notes`: for each cell that an edit of narrow
-/// rectangles alone named, the last one that did. `narrow`: for each edit, how many in a row, up to it and with it, named narrow
-/// rectangles alone.
+/// What is noted of the first edits of a log, as many as `narrow` has entries. `notes`: for each cell that an edit of
+/// narrow rectangles alone named, the last one that did. `narrow`: for each edit, how many in a row, up to it and with
+/// it, named narrow rectangles alone.
 #[derive(Drop)]
 pub(crate) struct Noted {
     notes: Notes,
@@ -105,8 +105,8 @@ impl Noted {
         Ok(())
     }
 
-    /// Whether an edit of another session that isn't among the first `since` ones named the cell, as far as edits are noted.
-    /// One look.
+    /// Whether an edit of another session that isn't among the first `since` ones named the cell, as far as edits are
+    /// noted. One look.
     fn is_noted_stale(&self, at: Address, session: u32, since: usize) -> bool
         ensures { result ≡ is_noted_stale (last_of self.now.notes.entries at) session since }
     {
@@ -142,8 +142,9 @@ impl Noted {
         first
     }
 
-    /// The first of the wanted cells that an edit of another session, from a place on, names. It takes one look for each of
-    /// them for what is noted, and goes through the edits of wider rectangles, and through those that aren't noted.
+    /// The first of the wanted cells that an edit of another session, from a place on, names. It takes one look for
+    /// each of them for what is noted, and goes through the edits of wider rectangles, and through those that aren't
+    /// noted.
     pub(crate) fn first_named(
         &self,
         edits: &[Edit],
@@ -238,8 +239,8 @@ fn note_edit(notes: &mut Notes, edit: &Edit, count: u32) -> Result<(), AllocErro
     Ok(())
 }
 
-/// The count of an edit that comes after those that are counted: how many in a row, up to it and with it, named narrow rectangles
-/// alone.
+/// The count of an edit that comes after those that are counted: how many in a row, up to it and with it, named narrow
+/// rectangles alone.
 fn narrow_after(counts: &[u32], edit: &Edit) -> u32
     ensures { (es : List Edit) → AreCounted es counts.now
         → IsCount (es ++ edit.now ∷ []) (length es) result }

@@ -54,8 +54,8 @@ fn first_in_each(few: &[Rect], many: &[Rect], many_rise: bool) -> Option<Address
 }
 
 /// The first cell that rectangles of two lists share, which may be told to rise. Each rectangle of the shorter list is
-/// looked for in the longer. Where that rises, the work for each is that of `first_in_rising`, and else it grows with the
-/// longer's length.
+/// looked for in the longer. Where that rises, the work for each is that of `first_in_rising`, and else it grows with
+/// the longer's length.
 pub(crate) fn first_between(
     areas: &[Rect],
     they_rise: bool,

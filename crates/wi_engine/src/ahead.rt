@@ -16,10 +16,10 @@ use std::alloc::AllocError;
 use wi_functions::first_cell;
 use wi_store::Store;
 
-/// Finds the value of a cell with a formula for which any evaluation of a frame's formula asks, so that this isn't evaluated in
-/// vain, where the frame waits for nothing and no value was found for it yet. A cell that has to be evaluated first is given, and
-/// the frame waits for it. It takes at most a walk through the formula's tree, and mostly a step or two there; then a look at the
-/// cell's content, its key, and a look at what is remembered of it.
+/// Finds the value of a cell with a formula for which any evaluation of a frame's formula asks, so that this isn't
+/// evaluated in vain, where the frame waits for nothing and no value was found for it yet. A cell that has to be
+/// evaluated first is given, and the frame waits for it. It takes at most a walk through the formula's tree, and mostly
+/// a step or two there; then a look at the cell's content, its key, and a look at what is remembered of it.
 pub(crate) fn look_ahead<'a, M: Memo>(
     pool: &mut Pool,
     store: &'a Store,

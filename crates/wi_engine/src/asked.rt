@@ -15,9 +15,9 @@ use wi_store::Store;
 use wi_values::{Address, Value};
 use wi_worlds::World;
 
-/// A cell's value under replacements, where nothing or a constant stands there, or its value is remembered; else its formula
-/// has to be evaluated. The work grows with the logarithms of the counts of replacements and of occupied cells, beside that of a
-/// copy of the value and, for a formula, of its key.
+/// A cell's value under replacements, where nothing or a constant stands there, or its value is remembered; else its
+/// formula has to be evaluated. The work grows with the logarithms of the counts of replacements and of occupied cells,
+/// beside that of a copy of the value and, for a formula, of its key.
 pub(crate) fn value_now<'a, M: Memo>(
     alloc: Global,
     store: &'a Store,
@@ -40,8 +40,8 @@ pub(crate) fn value_now<'a, M: Memo>(
     }
 }
 
-/// The value of a cell that has this formula under replacements, where it is remembered; else the formula has to be evaluated. It
-/// makes the cell's key, looks it up once and copies the value.
+/// The value of a cell that has this formula under replacements, where it is remembered; else the formula has to be
+/// evaluated. It makes the cell's key, looks it up once and copies the value.
 #[inline(always)]
 pub(crate) fn remembered_value<'a, M: Memo>(
     alloc: Global,

@@ -25,8 +25,8 @@ use wi_worlds::World;
 /// Dependents of a cell at any remove, itself among them, by that cell.
 pub type Cones = BTreeMap<Address, BTreeSet<Address>>;
 
-/// Adds the cones of the replaced addresses that have none yet. The work for each is that of `cone`. If memory runs out,
-/// those added so far stay.
+/// Adds the cones of the replaced addresses that have none yet. The work for each is that of `cone`. If memory runs
+/// out, those added so far stay.
 pub(crate) fn add_cones(
     alloc: Global,
     store: &Store,
@@ -67,8 +67,8 @@ fn add_cone(
     Ok(())
 }
 
-/// The cells of an order of reading that reach a cell. The work is one pass over the occupied cells that they read, each as
-/// often as it is read.
+/// The cells of an order of reading that reach a cell. The work is one pass over the occupied cells that they read,
+/// each as often as it is read.
 fn cone(
     alloc: Global,
     store: &Store,

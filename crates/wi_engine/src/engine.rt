@@ -81,8 +81,8 @@ fn next_lacking(store: &Store, frame: &Frame, cells: &mut Vec<Address>) -> Optio
     None
 }
 
-/// Finds the values of cells for a frame that waits for nothing else, so that it lacks none of them, or gives one that has
-/// to be evaluated first.
+/// Finds the values of cells for a frame that waits for nothing else, so that it lacks none of them, or gives one that
+/// has to be evaluated first.
 fn resolve_cells<'a, M: Memo>(
     pool: &mut Pool,
     store: &'a Store,
@@ -122,8 +122,8 @@ fn resolve_cells<'a, M: Memo>(
     }
 }
 
-/// Finds the value of a what-if for a frame that waits for nothing else, or gives a cell that has to be evaluated first: that of
-/// an input's value, and else its formula cell.
+/// Finds the value of a what-if for a frame that waits for nothing else, or gives a cell that has to be evaluated
+/// first: that of an input's value, and else its formula cell.
 fn resolve_what_if<'a, M: Memo>(
     pool: &mut Pool,
     store: &'a Store,
@@ -261,8 +261,8 @@ fn wait_for_others(store: &Store, frame: &mut Frame, others: Vec<Address>)
     }
 }
 
-/// Takes in the value that was found for a key, where a frame waits for its cell, so that it isn't looked up. The frame then waits for
-/// the next cell that it lacks.
+/// Takes in the value that was found for a key, where a frame waits for its cell, so that it isn't looked up. The frame
+/// then waits for the next cell that it lacks.
 pub(crate) fn take_in(
     pool: &mut Pool,
     store: &Store,

@@ -18,8 +18,8 @@ use wi_store::Store;
 use wi_values::{Address, Rect, Replacement};
 use wi_worlds::World;
 
-/// The first cell of a rectangle, at a cell or after it, that is occupied or replaced, with what stands there. The work is that
-/// of `Store::next_content` and of `next_replaced`.
+/// The first cell of a rectangle, at a cell or after it, that is occupied or replaced, with what stands there. The work
+/// is that of `Store::next_content` and of `next_replaced`.
 pub(crate) fn next_touched<'a>(
     store: &'a Store,
     world: &'a World,
@@ -38,8 +38,9 @@ pub(crate) fn next_touched<'a>(
     earlier(&store.next_content(area, from), replaced)
 }
 
-/// The first replacement of a cell of a rectangle, at a cell or after it. The work grows with the logarithm of the count of
-/// replacements, and with the count of replaced cells from there to the one found, or to the rectangle's last cell.
+/// The first replacement of a cell of a rectangle, at a cell or after it. The work grows with the logarithm of the
+/// count of replacements, and with the count of replaced cells from there to the one found, or to the rectangle's last
+/// cell.
 pub(crate) fn next_replaced(
     replacements: &[Replacement],
     area: Rect,

@@ -12,8 +12,8 @@ use std::alloc::AllocError;
 use wi_parser::Pair;
 use wi_values::{Address, Value};
 
-/// The values that were found for one formula: of cells, and of what-ifs. Until the first is found there are no lists of them, so that
-/// of the formulas that wait for one another only those have lists for which something was found.
+/// The values that were found for one formula: of cells, and of what-ifs. Until the first is found there are no lists
+/// of them, so that of the formulas that wait for one another only those have lists for which something was found.
 #[derive(Drop)]
 pub struct Findings {
     pub lists: Option<Box<Lists>>,
@@ -60,8 +60,8 @@ impl Findings {
         }
     }
 
-    /// Adds the value of a cell of which none was found. For the first value lists are taken from a pool. The work grows with the
-    /// logarithm of the count of cells found.
+    /// Adds the value of a cell of which none was found. For the first value lists are taken from a pool. The work
+    /// grows with the logarithm of the count of cells found.
     #[inline(always)]
     pub(crate) fn add_cell(
         &mut self,

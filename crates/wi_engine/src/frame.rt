@@ -21,7 +21,8 @@ pub enum Waiting {
     WhatIf(Address, Vec<Pair>),
 }
 
-/// A cell under the replacements of cells that it reaches, whose formula is being evaluated, with the values that were found for it.
+/// A cell under the replacements of cells that it reaches, whose formula is being evaluated, with the values that were
+/// found for it.
 #[derive(Drop)]
 pub struct Frame<'a> {
     pub key: Key,
@@ -60,8 +61,8 @@ impl<'a> Frame<'a> {
         None
     }
 
-    /// Keeps a scan, in the place of an earlier one through its rectangle. For the first one a list is taken from a pool. The work
-    /// grows with the count of scans.
+    /// Keeps a scan, in the place of an earlier one through its rectangle. For the first one a list is taken from a
+    /// pool. The work grows with the count of scans.
     pub(crate) fn keep_scan(&mut self, scan: Scan, pool: &mut Pool) -> Result<(), AllocError>
         ensures key { self.new.key ≡ self.old.key }
         ensures formula { self.new.formula.now ≡ self.old.formula.now }
@@ -80,7 +81,8 @@ impl<'a> Frame<'a> {
         Ok(())
     }
 
-    /// The key, where the frame is done. Its arrays are put into a pool, or go. The work grows with the count of their values.
+    /// The key, where the frame is done. Its arrays are put into a pool, or go. The work grows with the count of their
+    /// values.
     #[inline(always)]
     pub(crate) fn retire(self, pool: &mut Pool) -> Key
         ensures { result ≡ self.entry.key }

@@ -94,9 +94,10 @@ impl<'a> Known<'a> {
         }
     }
 
-    /// Hands the occupied cells of a rectangle over, in row-major order, from one on up to the first that is replaced, until one
-    /// is missing. It takes a step for each cell, and for a formula a look at what was found; beside that a search for each 16
-    /// rows, and where more than one of their tiles lie in the rectangle, a step for each tile of each row.
+    /// Hands the occupied cells of a rectangle over, in row-major order, from one on up to the first that is replaced,
+    /// until one is missing. It takes a step for each cell, and for a formula a look at what was found; beside that a
+    /// search for each 16 rows, and where more than one of their tiles lie in the rectangle, a step for each tile of
+    /// each row.
     fn hand_stored<T: TakesCells>(
         &self,
         area: Rect,

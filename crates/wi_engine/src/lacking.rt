@@ -17,8 +17,8 @@ pub(crate) fn is_lacking(store: &Store, frame: &Frame, at: Address) -> bool
     formula_in(store, &frame.key.world, at).is_some() && frame.found.cell(at).is_none()
 }
 
-/// The first cell of a rectangle after another whose value a frame lacks. For each occupied cell passed it takes a search
-/// for the next one, a look at what stands there and, for a formula, one at what the frame found.
+/// The first cell of a rectangle after another whose value a frame lacks. For each occupied cell passed it takes a
+/// search for the next one, a look at what stands there and, for a formula, one at what the frame found.
 pub(crate) fn next_lacking_in(
     store: &Store,
     frame: &Frame,
@@ -41,9 +41,9 @@ pub(crate) fn next_lacking_in(
     None
 }
 
-/// A cell, and behind it the next cells of a rectangle whose values a frame lacks: so many in all, or as many as there are. It
-/// takes a search for each occupied cell of the rectangle from this one to the last that is listed, and to the end where fewer
-/// are left.
+/// A cell, and behind it the next cells of a rectangle whose values a frame lacks: so many in all, or as many as there
+/// are. It takes a search for each occupied cell of the rectangle from this one to the last that is listed, and to the
+/// end where fewer are left.
 pub(crate) fn with_next_lacking(
     alloc: Global,
     store: &Store,

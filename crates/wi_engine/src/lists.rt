@@ -23,8 +23,9 @@ pub struct FoundWhatIf {
     pub value: Value,
 }
 
-/// The values that were found for one formula: of cells, and of what-ifs, which are few. Most formulas rest on few cells too, so
-/// that the list of the first suffices; a fold over many finds them in row-major order. Arrays are used again for other formulas.
+/// The values that were found for one formula: of cells, and of what-ifs, which are few. Most formulas rest on few
+/// cells too, so that the list of the first suffices; a fold over many finds them in row-major order. Arrays are used
+/// again for other formulas.
 #[derive(Drop)]
 pub struct Lists {
     /// Those of the first cells, as they were found.

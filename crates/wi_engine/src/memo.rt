@@ -45,8 +45,9 @@ pub trait Memo {
         false
     }
 
-    /// Remembers a value for a key, which is found from then on, and keeps it for longer where the capacity allows any. Another that was
-    /// kept may be evicted for it; of those found none is forgotten. If memory runs out, the value may be remembered or not.
+    /// Remembers a value for a key, which is found from then on, and keeps it for longer where the capacity allows any.
+    /// Another that was kept may be evicted for it; of those found none is forgotten. If memory runs out, the value may
+    /// be remembered or not.
     fn keep(&mut self, key: Key, value: Value) -> Result<(), AllocError>
         requires generation { key.generation ≡ (state self.old).generation key.cell }
         requires open_cell { circular (state self.old).sheet key.cell ≡ false }
@@ -58,7 +59,8 @@ pub trait Memo {
         ensures stays { (c : ℕ) (w : List Replacements) → (state self.old).found c w ≡ true
             → (state self.new).found c w ≡ true };
 
-    /// As `keep`, but where no place is free it may be remembered for this question alone, so that none that is kept is evicted for it.
+    /// As `keep`, but where no place is free it may be remembered for this question alone, so that none that is kept is
+    /// evicted for it.
     fn remember(&mut self, key: Key, value: Value) -> Result<(), AllocError>
         requires generation { key.generation ≡ (state self.old).generation key.cell }
         requires open_cell { circular (state self.old).sheet key.cell ≡ false }

@@ -34,8 +34,8 @@ pub struct Planned {
     pub is_given: bool,
 }
 
-/// Cells on which the value of another one rests where some are replaced, in an order in which each comes after those that its
-/// formula reads.
+/// Cells on which the value of another one rests where some are replaced, in an order in which each comes after those
+/// that its formula reads.
 #[derive(Drop)]
 pub struct Plan {
     pub root: Address,
@@ -44,10 +44,10 @@ pub struct Plan {
 }
 
 impl<M: Memo + Drop> Question<M> {
-    /// The value of a plan's root where its inputs are replaced, in a question that ends with it and where no place is free for a
-    /// value: that of the root is kept, and no other. None where the root's value is remembered, or one that is to be given isn't.
-    /// Each other cell of the plan takes a look at what stands there, one evaluation, and what it takes to add its value to those
-    /// found.
+    /// The value of a plan's root where its inputs are replaced, in a question that ends with it and where no place is
+    /// free for a value: that of the root is kept, and no other. None where the root's value is remembered, or one that
+    /// is to be given isn't. Each other cell of the plan takes a look at what stands there, one evaluation, and what it
+    /// takes to add its value to those found.
     pub fn planned_value(
         &mut self,
         store: &Store,
@@ -159,7 +159,8 @@ impl<M: Memo + Drop> Question<M> {
         }
     }
 
-    /// The value of a plan's cell: one that is to be given is there, and the formula of any other rests on what was found.
+    /// The value of a plan's cell: one that is to be given is there, and the formula of any other rests on what was
+    /// found.
     fn planned_cell(
         &mut self,
         store: &Store,

@@ -7,7 +7,8 @@ use crate::lists::Lists;
 use crate::scan::Scan;
 use std::alloc::{AllocError, Global};
 
-/// How many lists of values are kept, and of scans. Formulas that are evaluated one after another seldom stand deeper in one another.
+/// How many lists of values are kept, and of scans. Formulas that are evaluated one after another seldom stand deeper
+/// in one another.
 const MAX_KEPT: usize = 64;
 
 /// How many values or scans an array may have that is kept. A pool takes less than a megabyte then.

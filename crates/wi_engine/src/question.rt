@@ -31,10 +31,11 @@ pub struct Question<M: Memo + Drop> {
 }
 
 impl<M: Memo + Drop> Question<M> {
-    /// The value of a cell under replacements, with what is remembered of others, and of it. A formula is evaluated where no
-    /// value is remembered for its key, and each only once, however many rest on it. No formula calls for another on the
-    /// machine's stack: those that wait stand in lists (`Stack`), which grow as the references lead on. Each takes its arrays
-    /// from a pool when something is found for it, and they go back there when its value is there.
+    /// The value of a cell under replacements, with what is remembered of others, and of it. A formula is evaluated
+    /// where no value is remembered for its key, and each only once, however many rest on it. No formula calls for
+    /// another on the machine's stack: those that wait stand in lists (`Stack`), which grow as the references lead on.
+    /// Each takes its arrays from a pool when something is found for it, and they go back there when its value is
+    /// there.
     pub fn value(&mut self, store: &Store, world: &World, at: Address) -> Result<Value, AllocError>
         requires memo { IsMemoOf store.now.sheet (M.state self.old.memo) }
         requires read { MayBeRead store.now.sheet (M.state self.old.memo) at }
@@ -67,7 +68,8 @@ impl<M: Memo + Drop> Question<M> {
         }
     }
 
-    /// As `value`, where the formula is at hand that the cell has under the replacements: what stands there isn't looked for once more.
+    /// As `value`, where the formula is at hand that the cell has under the replacements: what stands there isn't
+    /// looked for once more.
     pub fn formula_value(
         &mut self,
         store: &Store,
@@ -88,8 +90,9 @@ impl<M: Memo + Drop> Question<M> {
         }
     }
 
-    /// The value of a formula under the replacements of its key, found by a stack of frames. The value of each frame goes to
-    /// the one below, which may wait for it, and then to the memory, by `Memo::remember`; that of the last is kept.
+    /// The value of a formula under the replacements of its key, found by a stack of frames. The value of each frame
+    /// goes to the one below, which may wait for it, and then to the memory, by `Memo::remember`; that of the last is
+    /// kept.
     fn run(&mut self, store: &Store, key: Key, formula: &Formula) -> Result<Value, AllocError>
         requires memo { IsMemoOf store.now.sheet (M.state self.old.memo) }
         requires key { IsUnvaluedKey store.now.sheet (M.state self.old.memo) key }

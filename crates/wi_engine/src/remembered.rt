@@ -73,8 +73,8 @@ impl<'a> Memo for Remembered<'a> {
     ghost state = { question_state };
 
     /// The key for a cell under replacements. The work for an address that is replaced for the first time is one pass
-    /// over what all the cells read; else it grows with the count of replacements, and with logarithms. Keys in turn with the
-    /// same part of the replacements share it.
+    /// over what all the cells read; else it grows with the count of replacements, and with logarithms. Keys in turn
+    /// with the same part of the replacements share it.
     fn key(&mut self, at: Address, world: &World) -> Result<Key, AllocError> {
         add_cones(self.alloc, self.store, &self.order, world, &mut self.cones)?;
         let world = world.reaching(at, &self.cones, &mut self.last)?;

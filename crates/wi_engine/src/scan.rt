@@ -5,9 +5,9 @@ ghost use Rattle.wi_engine.specs.Inner.Scans.{leaves_line, max_breaks, part, twi
 
 use wi_values::{Address, Rect};
 
-/// How often a scan may break off before more than one cell is found there. A formula may look up some cells here and there.
-/// One that wants many cells apart, as SUMIF does at the places where its criterion is met, is then begun anew no more often
-/// than the logarithm of their count.
+/// How often a scan may break off before more than one cell is found there. A formula may look up some cells here and
+/// there. One that wants many cells apart, as SUMIF does at the places where its criterion is met, is then begun anew
+/// no more often than the logarithm of their count.
 const MAX_BREAKS: usize = 8;
 
 /// The direction in which the cells that are wanted go on: along a row, down a column, or through the whole rectangle.
@@ -67,8 +67,8 @@ impl Scan {
         }
     }
 
-    /// The scan where the cell that is wanted follows in this way: twice as many cells are found. Where it leaves a row or a column
-    /// it may be that no more of the next one is wanted, so it begins with one cell again.
+    /// The scan where the cell that is wanted follows in this way: twice as many cells are found. Where it leaves a row
+    /// or a column it may be that no more of the next one is wanted, so it begins with one cell again.
     pub(crate) fn led_on(self, way: Way) -> Scan
         ensures rectangle { result.rectangle ≡ self.rectangle }
         ensures way { result.way ≡ way }

@@ -41,9 +41,9 @@ struct Rest {
     scans: Vec<Scan>,
 }
 
-/// Frames of which each waits for the next one, and the last for one that isn't here. Those of a long chain all wait at once, and nearly
-/// all of them for one cell, with nothing found yet. So what only few have stands in a list of its own, and a frame takes 64 bytes, half
-/// of what it takes else. None has a block of memory for itself.
+/// Frames of which each waits for the next one, and the last for one that isn't here. Those of a long chain all wait at
+/// once, and nearly all of them for one cell, with nothing found yet. So what only few have stands in a list of its
+/// own, and a frame takes 64 bytes, half of what it takes else. None has a block of memory for itself.
 #[derive(Drop)]
 pub struct Stack<'a> {
     entries: Vec<Entry<'a>>,
@@ -104,8 +104,8 @@ impl<'a> Stack<'a> {
         put_on(alloc, &mut self.entries, &mut self.rests, frame, next);
     }
 
-    /// Takes what stands on top, if anything does, into a frame that is done, and gives the key that this had. Its arrays are put into
-    /// a pool, or go. The work grows with the count of their values.
+    /// Takes what stands on top, if anything does, into a frame that is done, and gives the key that this had. Its
+    /// arrays are put into a pool, or go. The work grows with the count of their values.
     #[inline(always)]
     pub(crate) fn pop(&mut self, frame: &mut Frame<'a>, pool: &mut Pool) -> Option<Key>
         ensures key { MatchOption result (frame.new ≡ frame.old) (λ k. k ≡ frame.old.key) }
@@ -128,7 +128,8 @@ fn make_space(entries: &mut Vec<Entry>, rests: &mut Vec<Rest>) -> Result<(), All
     Ok(())
 }
 
-/// Puts what a frame is on top, into the first list alone where that has all of it, and lets the frame begin with another formula.
+/// Puts what a frame is on top, into the first list alone where that has all of it, and lets the frame begin with
+/// another formula.
 #[inline(always)]
 fn put_on<'a>(
     alloc: Global,
@@ -183,7 +184,8 @@ fn is_bare(frame: &Frame) -> bool
     }
 }
 
-/// Puts what a frame is on top, which has nothing but the cell that it waits for. Its lists are empty, and stay for the other formula.
+/// Puts what a frame is on top, which has nothing but the cell that it waits for. Its lists are empty, and stay for the
+/// other formula.
 #[inline(always)]
 fn put_one_cell<'a>(
     entries: &mut Vec<Entry<'a>>,
@@ -257,8 +259,8 @@ fn take_off<'a>(
     }
 }
 
-/// Lets a frame that is done be the one that waits for a cell, with nothing found, and gives the key that it had. Takes no memory but for
-/// the pool, into which its arrays are put.
+/// Lets a frame that is done be the one that waits for a cell, with nothing found, and gives the key that it had. Takes
+/// no memory but for the pool, into which its arrays are put.
 #[inline(always)]
 fn take_one_cell<'a>(
     frame: &mut Frame<'a>,

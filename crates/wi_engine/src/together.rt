@@ -1,9 +1,10 @@
 //! Which cells are found together with one that a formula lacks.
 //!
-//! A formula is evaluated anew each time that it lacks a value. A fold over a thousand formulas would be begun a thousand times
-//! if one of them were found each time; and of a table from which INDEX reads one cell the others aren't wanted. So how many
-//! are found goes by what was wanted of the same rectangle before. A cell is found alone, and where the next one that is wanted
-//! follows, in its row, its column or the whole rectangle, twice as many are found each time, if there are so many.
+//! A formula is evaluated anew each time that it lacks a value. A fold over a thousand formulas would be begun a
+//! thousand times if one of them were found each time; and of a table from which INDEX reads one cell the others aren't
+//! wanted. So how many are found goes by what was wanted of the same rectangle before. A cell is found alone, and where
+//! the next one that is wanted follows, in its row, its column or the whole rectangle, twice as many are found each
+//! time, if there are so many.
 
 ghost use Rattle.std.specs.Prelude.{◌≡◌, ℕ, true, nat_lt, if◌then◌else◌, IfOk, IfSome};
 ghost use Rattle.wi_values.specs.Address.{is_one_of, is_within_one, size_of};
@@ -25,9 +26,9 @@ pub struct Batch {
     pub scan: Scan,
 }
 
-/// The cells that are to be found together with one that a frame's formula lacks, that one first. They lie in the smallest of
-/// the formula's rectangles that hold it. The work grows with the count of the formula's rectangles, and as that of
-/// `next_lacking_in` and of `with_next_lacking`.
+/// The cells that are to be found together with one that a frame's formula lacks, that one first. They lie in the
+/// smallest of the formula's rectangles that hold it. The work grows with the count of the formula's rectangles, and as
+/// that of `next_lacking_in` and of `with_next_lacking`.
 pub(crate) fn together(
     alloc: Global,
     store: &Store,
@@ -91,8 +92,8 @@ fn leads_to(store: &Store, frame: &Frame, scan: &Scan, way: Way, at: Address) ->
     scan.way.may_become(way) && is_next(store, frame, scan, way, at)
 }
 
-/// Whether a cell is the next one that is lacking after the last one of a scan, in the part of its rectangle through which this
-/// way leads.
+/// Whether a cell is the next one that is lacking after the last one of a scan, in the part of its rectangle through
+/// which this way leads.
 fn is_next(store: &Store, frame: &Frame, scan: &Scan, way: Way, at: Address) -> bool
     ensures { result ≡ is_next store.now.sheet frame.now scan.now way at }
 {

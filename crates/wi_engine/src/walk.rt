@@ -67,10 +67,10 @@ pub fn reached(
     reached_from(alloc, store, &[at])
 }
 
-/// The cells with a formula that these cells reach, they among them, each once and after those that it reads. None where
-/// one of these cells is circular. The work grows with the count of the occupied cells in the rectangles that the reached
-/// cells read, each as often as it is read (so with the square of a column of running totals), for each of these as that of
-/// `Store::next_occupied`. The memory grows with the count of the cells reached.
+/// The cells with a formula that these cells reach, they among them, each once and after those that it reads. None
+/// where one of these cells is circular. The work grows with the count of the occupied cells in the rectangles that the
+/// reached cells read, each as often as it is read (so with the square of a column of running totals), for each of
+/// these as that of `Store::next_occupied`. The memory grows with the count of the cells reached.
 pub fn reached_from(
     alloc: Global,
     store: &Store,
@@ -119,8 +119,8 @@ impl Walk {
         Ok(false)
     }
 
-    /// Goes on from the last cell of the path, which was taken off: to the next cell that it reads, or back. Answers whether
-    /// that closes a cycle.
+    /// Goes on from the last cell of the path, which was taken off: to the next cell that it reads, or back. Answers
+    /// whether that closes a cycle.
     fn go_on(&mut self, store: &Store, visit: Visit) -> Result<bool, AllocError>
         ensures cycle { IfOk result (λ b. OnTrue b (HasCycle store.now.sheet
             (tasks_in store.now.sheet (self.old.path.items ++ visit ∷ []))

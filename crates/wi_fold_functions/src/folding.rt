@@ -17,8 +17,8 @@ use std::ops::ControlFlow;
 use wi_arguments::{Argument, Lookup, TakesCells, take_cells};
 use wi_values::{Address, ErrorKind, Value};
 
-/// The value of a function that folds the items of its arguments. It looks at filled cells alone, and at none after the first
-/// error.
+/// The value of a function that folds the items of its arguments. It looks at filled cells alone, and at none after the
+/// first error.
 pub(crate) fn fold_arguments<L: Lookup, F: Fold>(
     arguments: &[Argument],
     lookup: &L,

@@ -11,8 +11,8 @@ use crate::item::Item;
 use wi_arguments::{Argument, Lookup};
 use wi_values::{Address, ErrorKind, Value};
 
-/// AND: whether all truth values that count are TRUE, or the first error met; `BadValue` where none counts. `Err` has a cell
-/// whose value isn't known.
+/// AND: whether all truth values that count are TRUE, or the first error met; `BadValue` where none counts. `Err` has a
+/// cell whose value isn't known.
 pub(crate) fn and_value<L: Lookup>(arguments: &[Argument], lookup: &L) -> Result<Value, Address>
     ensures done { IfOk result (IsOfArguments (L.known_cell lookup.now) and_value arguments.now) }
     ensures missing { IfErr result (IsMissing (L.known_cell lookup.now) arguments.now) }
@@ -20,8 +20,8 @@ pub(crate) fn and_value<L: Lookup>(arguments: &[Argument], lookup: &L) -> Result
     fold_arguments(arguments, lookup, AllTrue { all: None })
 }
 
-/// OR: whether one of the truth values that count is TRUE, or the first error met; `BadValue` where none counts. `Err` has a cell
-/// whose value isn't known.
+/// OR: whether one of the truth values that count is TRUE, or the first error met; `BadValue` where none counts. `Err`
+/// has a cell whose value isn't known.
 pub(crate) fn or_value<L: Lookup>(arguments: &[Argument], lookup: &L) -> Result<Value, Address>
     ensures done { IfOk result (IsOfArguments (L.known_cell lookup.now) or_value arguments.now) }
     ensures missing { IfErr result (IsMissing (L.known_cell lookup.now) arguments.now) }

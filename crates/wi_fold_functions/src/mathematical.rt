@@ -14,8 +14,8 @@ use wi_fraction::Fraction;
 use wi_value_functions::{add, multiply, one, zero};
 use wi_values::{Address, ErrorKind, Value};
 
-/// SUM: the sum of the numbers that count, from the left, or the first error met; `BadNumber` where a sum doesn't fit. `Err`
-/// has a cell whose value isn't known.
+/// SUM: the sum of the numbers that count, from the left, or the first error met; `BadNumber` where a sum doesn't fit.
+/// `Err` has a cell whose value isn't known.
 pub(crate) fn sum_value<L: Lookup>(arguments: &[Argument], lookup: &L) -> Result<Value, Address>
     ensures done { IfOk result (IsOfArguments (L.known_cell lookup.now) sum_value arguments.now) }
     ensures missing { IfErr result (IsMissing (L.known_cell lookup.now) arguments.now) }
@@ -23,8 +23,8 @@ pub(crate) fn sum_value<L: Lookup>(arguments: &[Argument], lookup: &L) -> Result
     fold_arguments(arguments, lookup, Sum { total: zero() })
 }
 
-/// PRODUCT: the product of the numbers that count, from the left, or the first error met; `BadNumber` where a product doesn't fit.
-/// `Err` has a cell whose value isn't known.
+/// PRODUCT: the product of the numbers that count, from the left, or the first error met; `BadNumber` where a product
+/// doesn't fit. `Err` has a cell whose value isn't known.
 pub(crate) fn product_value<L: Lookup>(arguments: &[Argument], lookup: &L) -> Result<Value, Address>
     ensures done { IfOk result
         (IsOfArguments (L.known_cell lookup.now) product_value arguments.now) }

@@ -31,8 +31,8 @@ pub(crate) fn max_value<L: Lookup>(arguments: &[Argument], lookup: &L) -> Result
     fold_arguments(arguments, lookup, Greatest { greatest: None })
 }
 
-/// AVERAGE: the sum of the numbers divided by their count, or the first error met; `DivisionByZero` where there is none,
-/// `BadNumber` where a step doesn't fit. `Err` has a cell whose value isn't known.
+/// AVERAGE: the sum of the numbers divided by their count, or the first error met; `DivisionByZero` where there is
+/// none, `BadNumber` where a step doesn't fit. `Err` has a cell whose value isn't known.
 pub(crate) fn average_value<L: Lookup>(arguments: &[Argument], lookup: &L) -> Result<Value, Address>
     ensures done { IfOk result
         (IsOfArguments (L.known_cell lookup.now) average_value arguments.now) }

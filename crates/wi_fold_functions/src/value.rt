@@ -14,8 +14,8 @@ use wi_arguments::{Argument, Lookup};
 use wi_value_functions::FoldFunction;
 use wi_values::{Address, Value};
 
-/// The value of the function for these arguments. `Err` has a cell whose value isn't known. The work is a walk through the
-/// filled cells that the arguments refer to, which ends at the first error that is the value.
+/// The value of the function for these arguments. `Err` has a cell whose value isn't known. The work is a walk through
+/// the filled cells that the arguments refer to, which ends at the first error that is the value.
 pub fn value_of_fold<L: Lookup>(
     function: FoldFunction,
     arguments: &[Argument],

@@ -89,8 +89,8 @@ fn is_read_back(alloc: Global, formula: &Formula) -> Result<bool, AllocError> {
     Ok(text.len() > MAX_FORMULA || is_read_from(alloc, formula, &text)?)
 }
 
-/// Appends a part of what a formula tells. Its copy tells the same, and so does what is read from its text, where that isn't
-/// too long.
+/// Appends a part of what a formula tells. Its copy tells the same, and so does what is read from its text, where that
+/// isn't too long.
 fn push_told(
     alloc: Global,
     part: &str,

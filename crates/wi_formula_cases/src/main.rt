@@ -1,6 +1,6 @@
-//! Reads cases of values and formulas, and prints them. A line such as `@values` begins a section, and the lines below it are
-//! its cases; in the head of each section stands its notation. Each line is written as it stands, and a case with its answer
-//! behind an arrow.
+//! Reads cases of values and formulas, and prints them. A line such as `@values` begins a section, and the lines below
+//! it are its cases; in the head of each section stands its notation. Each line is written as it stands, and a case
+//! with its answer behind an arrow.
 #![tactic(auto)]
 
 mod areas;

@@ -17,8 +17,8 @@ fn fault_named(name: &str) -> Option<ErrorKind> {
     }
 }
 
-/// The value of an operand: an error by its name, what follows a quote as a text, Empty by its name, and else a number, a
-/// truth value or a text.
+/// The value of an operand: an error by its name, what follows a quote as a text, Empty by its name, and else a number,
+/// a truth value or a text.
 pub fn value(alloc: Global, operand: &str) -> Option<Value> {
     if let Some(fault) = fault_named(operand) {
         return Some(Value::Fault(fault));

@@ -35,13 +35,15 @@ pub fn texts_are_read_as_spelled()
     ensures { ReadsWhatIsSpelled }
 {}
 
-/// A number token is read as the value of the digits and the exponent that it writes, where that fits; any other is refused.
+/// A number token is read as the value of the digits and the exponent that it writes, where that fits; any other is
+/// refused.
 #[tactic(auto, using(crate::proofs::Written::reads_what_is_written))]
 pub fn tokens_are_read_as_written()
     ensures { ReadsWhatIsWritten }
 {}
 
-/// A decimal is shown and written at the fewest places that are exact, and n/d only where twelve, or 126, are not exact.
+/// A decimal is shown and written at the fewest places that are exact, and n/d only where twelve, or 126, are not
+/// exact.
 #[tactic(auto, using(crate::proofs::Places::shows_fewest_places))]
 pub fn texts_have_fewest_places()
     ensures { (d : ℕ) → ShowsFewestPlaces d }

@@ -29,8 +29,8 @@ impl Fraction {
     }
 
     /// The number that a number token spells: digits, or a decimal, before whose point no digit need stand; then, where
-    /// one is, an exponent: `e` or `E`, an optional sign and digits. Neither digits nor exponent need fit where the number
-    /// does. Takes time in proportion to the text, whatever the exponent.
+    /// one is, an exponent: `e` or `E`, an optional sign and digits. Neither digits nor exponent need fit where the
+    /// number does. Takes time in proportion to the text, whatever the exponent.
     #[tactic(auto, unfolding(crate::specs::Inner::Reading::read_decimal))]
     pub fn read_decimal(token: &[u8]) -> Option<Fraction>
         ensures { result ≡ read_decimal token.now }

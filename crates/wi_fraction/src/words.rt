@@ -1,4 +1,5 @@
-//! The parts of a number, and how they are kept: each as two words of 64 bits, so that a number stands at a multiple of 8 bytes.
+//! The parts of a number, and how they are kept: each as two words of 64 bits, so that a number stands at a multiple of
+//! 8 bytes.
 
 ghost use Rattle.std.specs.Prelude.{◌≡◌, ◌*◌, ◌+◌, ◌/◌, ◌%◌, ◌^◌};
 ghost use Rattle.wi_fraction.specs.Number.{IsNumber};

@@ -22,8 +22,8 @@ use wi_value_functions::{
 };
 use wi_values::{ErrorKind, Value};
 
-/// What an operator gives for two values. Only a join needs memory. It ends as an evaluation does, so that its result is handed on
-/// as it stands.
+/// What an operator gives for two values. Only a join needs memory. It ends as an evaluation does, so that its result
+/// is handed on as it stands.
 #[inline(never)]
 pub(crate) fn operate(
     alloc: Global,

@@ -65,7 +65,8 @@ pub record IsFlushing (s : Sheet) (number stamped : ℕ → ℕ) (rest : List �
   pub closed : IsClosedUp s visited
   pub high : (c : ℕ) → visited c ≡ true → last ≤ stamped c
 
--- So the cells are flushed one after another, later edits first: each stamps those cells of its cone that weren't visited.
+-- So the cells are flushed one after another, later edits first: each stamps those cells of its cone that weren't
+-- visited.
 abbrev pub FlushesOne : Type 0
 FlushesOne = (s : Sheet) (number stamped after : ℕ → ℕ) (rest less : List ℕ) (x last : ℕ) (visited now : ℕ → Bool) →
     ((y : ℕ) → is_one_of rest y ≡ true → (x ≡ y) ⊎ (is_one_of less y ≡ true)) → number x ≤ last →
@@ -76,7 +77,8 @@ FlushesOne = (s : Sheet) (number stamped after : ℕ → ℕ) (rest less : List 
 abbrev pub FlushingBegins : Type 0
 FlushingBegins = (s : Sheet) (number stamped : ℕ → ℕ) (rest : List ℕ) (visited : ℕ → Bool) (last : ℕ) → ((c : ℕ) → visited c ≡ false) → AreDirty s number rest stamped → IsFlushing s number stamped rest visited last
 
--- What is dirty stays so where more is stamped, but nothing later than the latest, and more cells are dirty: also where memory ran out half way.
+-- What is dirty stays so where more is stamped, but nothing later than the latest, and more cells are dirty: also where
+-- memory ran out half way.
 abbrev pub DirtyStays : Type 0
 DirtyStays = (s : Sheet) (number stamped after : ℕ → ℕ) (dirty more : List ℕ) → ((x : ℕ) → is_one_of dirty x ≡ true → is_one_of more x ≡ true) →
     ((c n : ℕ) → IsLatest s number c n → (stamped c ≤ after c) × (after c ≤ n)) → AreDirty s number dirty stamped → AreDirty s number more after

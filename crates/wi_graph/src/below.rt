@@ -57,8 +57,8 @@ pub(crate) fn is_clear(below: &Below) -> bool
     below.ahead.is_empty()
 }
 
-/// Goes on by so many steps at most. The work of a step is that of a search among the rooms, and grows with the rectangles of a
-/// formula that is found.
+/// Goes on by so many steps at most. The work of a step is that of a search among the rooms, and grows with the
+/// rectangles of a formula that is found.
 pub(crate) fn go_below(
     rooms: &Rooms,
     cell: Address,

@@ -14,9 +14,9 @@ use wi_values::Address;
 /// Cells, of which one takes no memory of its own.
 pub type Cells = SmallVec<Address, 1>;
 
-/// The cells that read one of these, at any remove, with themselves, but for those that are watched and what is found by them
-/// alone: each once, in row-major order. Of the cells given those that are watched cost a look, and where the others stand in that order and
-/// nothing reads them, they cost no more than the search for their readers.
+/// The cells that read one of these, at any remove, with themselves, but for those that are watched and what is found
+/// by them alone: each once, in row-major order. Of the cells given those that are watched cost a look, and where the
+/// others stand in that order and nothing reads them, they cost no more than the search for their readers.
 pub(crate) fn listed_beyond<W: Watch>(
     alloc: Global,
     readers: &RangeIndex,
@@ -35,7 +35,8 @@ pub(crate) fn listed_beyond<W: Watch>(
     Ok(Cells::from_vec(list))
 }
 
-/// The cells that read one of these, at any remove, with themselves, but for those that are watched. None of these is watched.
+/// The cells that read one of these, at any remove, with themselves, but for those that are watched. None of these is
+/// watched.
 pub(crate) fn cone_beyond<W: Watch>(
     alloc: Global,
     readers: &RangeIndex,

@@ -12,8 +12,8 @@ use std::collections::BTreeSet;
 use std::marker::Model;
 use wi_values::{Address, Rect};
 
-/// A set of cells. The rectangle has each that came in since the set was empty, so that what lies apart from it need not be
-/// searched.
+/// A set of cells. The rectangle has each that came in since the set was empty, so that what lies apart from it need
+/// not be searched.
 #[derive(Drop)]
 pub(crate) struct CellSet {
     set: BTreeSet<Address>,

@@ -71,8 +71,9 @@ pub(crate) fn changed_cells(
     Ok(cells)
 }
 
-/// What an edit brings beside what stands in the rooms; of two for one cell the later counts. A cell that goes on reading what it
-/// reads isn't named. The work grows with what the edited cells are to read, and their count times its logarithm.
+/// What an edit brings beside what stands in the rooms; of two for one cell the later counts. A cell that goes on
+/// reading what it reads isn't named. The work grows with what the edited cells are to read, and their count times its
+/// logarithm.
 pub(crate) fn rooms_of(
     alloc: Global,
     rooms: &Rooms,

@@ -1,5 +1,5 @@
-//! Whether an edit may close a cycle, or open one: whether what it brings reads a cell of its cone, and whether it meets a circular
-//! cell.
+//! Whether an edit may close a cycle, or open one: whether what it brings reads a cell of its cone, and whether it
+//! meets a circular cell.
 
 ghost use Rattle.std.specs.Prelude.{◌≡◌, ◌||◌, false, IsTrue};
 ghost use Rattle.std.specs.List.{list_any};
@@ -19,8 +19,8 @@ use crate::rooms::{Brought, Rectangles, Rooms, rectangles_in};
 use crate::within::{first_listed, next_within};
 use wi_values::{Address, Rect};
 
-/// Whether what is next reads a cell of a cone, which is in row-major order. The work grows with the count of the cone, and is
-/// that of `first_listed` for each rectangle that is read; of one cell it is a look at each.
+/// Whether what is next reads a cell of a cone, which is in row-major order. The work grows with the count of the cone,
+/// and is that of `first_listed` for each rectangle that is read; of one cell it is a look at each.
 pub(crate) fn closes_cycle(next: &[Brought], cone: &[Address]) -> bool
     requires { IsStrictlyIncreasing cone.now }
     ensures { result ≡ reads_one_of next.now (as_set cone.now) }
@@ -66,8 +66,9 @@ fn has_one(area: Rect, cells: &[Address], bounds: Rect) -> bool
     first_listed(cells, bounds, area).is_some()
 }
 
-/// Whether what is next is for a circular cell, or reads one. The work for each rectangle that is read grows with the logarithm of the
-/// count of circular cells, once and for each of its rows beside which one of them stands; where no cell is circular, it is constant.
+/// Whether what is next is for a circular cell, or reads one. The work for each rectangle that is read grows with the
+/// logarithm of the count of circular cells, once and for each of its rows beside which one of them stands; where no
+/// cell is circular, it is constant.
 #[inline(always)]
 pub(crate) fn meets_cyclic(next: &[Brought], cyclic: &CellSet) -> bool
     ensures { result ≡ meets_one_of next.now cyclic.now }
@@ -102,8 +103,8 @@ fn has_cyclic(area: Rect, cyclic: &CellSet) -> bool
     next_within(cyclic, area, area.first()).is_some()
 }
 
-/// Whether what is next is for one cell that isn't circular, and reads neither that cell nor a formula. It takes a search among the
-/// rooms for each rectangle that is read.
+/// Whether what is next is for one cell that isn't circular, and reads neither that cell nor a formula. It takes a
+/// search among the rooms for each rectangle that is read.
 pub(crate) fn stands_apart(rooms: &Rooms, cyclic: &CellSet, next: &[Brought]) -> bool
     ensures { IsTrue result → StandsApart rooms.now next.now cyclic.now }
 {

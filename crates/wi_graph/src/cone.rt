@@ -12,8 +12,8 @@ use std::alloc::{AllocError, Global};
 use wi_ranges::{RangeIndex, RisingSet};
 use wi_values::{Address, rise};
 
-/// The cells that read one of these, at any remove, with themselves: each once, in row-major order. Cells in that order which
-/// nothing reads are their own cone, and cost no more than the search for their readers.
+/// The cells that read one of these, at any remove, with themselves: each once, in row-major order. Cells in that order
+/// which nothing reads are their own cone, and cost no more than the search for their readers.
 pub(crate) fn listed_cone(
     alloc: Global,
     readers: &RangeIndex,

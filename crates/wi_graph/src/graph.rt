@@ -33,8 +33,8 @@ use wi_ranges::RangeIndex;
 use wi_tiles::CellMap;
 use wi_values::Address;
 
-/// An edit that is neither committed nor rolled back yet. Its rooms are made, its pairs are in the index, and what it makes
-/// circular is in the set.
+/// An edit that is neither committed nor rolled back yet. Its rooms are made, its pairs are in the index, and what it
+/// makes circular is in the set.
 #[derive(Drop)]
 struct Staged {
     next: Coming,
@@ -80,11 +80,11 @@ impl Graph {
         }
     }
 
-    /// Makes ready an edit, which gives each named cell a content or none; of two for one cell the later counts. If memory runs out, all
-    /// is as before. The cone is searched for only where a cycle may be closed or opened: not where each
-    /// cell reads what it read, nor where one cell that isn't circular gets something that reads neither it nor a formula. Where it reads
-    /// formulas, but no circular cell, what it reads at any remove is searched for it at the same time, so that the work grows with the
-    /// shorter of the two searches.
+    /// Makes ready an edit, which gives each named cell a content or none; of two for one cell the later counts. If
+    /// memory runs out, all is as before. The cone is searched for only where a cycle may be closed or opened: not
+    /// where each cell reads what it read, nor where one cell that isn't circular gets something that reads neither it
+    /// nor a formula. Where it reads formulas, but no circular cell, what it reads at any remove is searched for it at
+    /// the same time, so that the work grows with the shorter of the two searches.
     #[inline(always)]
     pub fn stage(&mut self, changes: &[NewContent]) -> Result<(), AllocError>
         requires { self.old.staged ≡ None }
@@ -135,7 +135,8 @@ impl Graph {
         }
     }
 
-    /// Whether a cell is on or above a cycle of references. The work grows with the logarithm of the count of such cells.
+    /// Whether a cell is on or above a cycle of references. The work grows with the logarithm of the count of such
+    /// cells.
     pub fn is_circular(&self, at: Address) -> bool
         requires { self.now.staged ≡ None }
         ensures { (s : Sheet) → AreEdgesOf self.now.now s → result ≡ circular s at }
@@ -143,8 +144,8 @@ impl Graph {
         self.cyclic.contains(&at)
     }
 
-    /// The cells that read one of these, at any remove, with themselves: each once, in row-major order. The work grows with
-    /// their count and that of their readers, times logarithms.
+    /// The cells that read one of these, at any remove, with themselves: each once, in row-major order. The work grows
+    /// with their count and that of their readers, times logarithms.
     pub fn cone(&self, cells: &[Address]) -> Result<Vec<Address>, AllocError>
         requires { self.now.staged ≡ None }
         ensures order { IfOk result (λ cone. IsStrictlyIncreasing cone.items) }
@@ -154,8 +155,9 @@ impl Graph {
         listed_cone(self.alloc, &self.readers, cells)
     }
 
-    /// Whether some formula reads one of these cells. The index is asked for each (`has_readers`), up to the first that is read: by the
-    /// cell alone where it lies apart from all that is read by rectangles, and else by the blocks that hold its row too.
+    /// Whether some formula reads one of these cells. The index is asked for each (`has_readers`), up to the first that
+    /// is read: by the cell alone where it lies apart from all that is read by rectangles, and else by the blocks that
+    /// hold its row too.
     pub fn any_is_read(&self, cells: &[Address]) -> bool
         requires { self.now.staged ≡ None }
         ensures unread { result ≡ false → (s : Sheet) → AreEdgesOf self.now.now s
@@ -167,8 +169,8 @@ impl Graph {
         any_is_read(&self.readers, cells)
     }
 
-    /// What `cone` answers but for cells that are watched, where each that reads a watched cell is watched. The work grows with the count of
-    /// the cells that it tells and that of their readers, times logarithms.
+    /// What `cone` answers but for cells that are watched, where each that reads a watched cell is watched. The work
+    /// grows with the count of the cells that it tells and that of their readers, times logarithms.
     pub fn cone_beyond<W: Watch>(&self, cells: &[Address], watch: &W) -> Result<Cells, AllocError>
         requires staged { self.now.staged ≡ None }
         requires closed { (s : Sheet) → AreEdgesOf self.now.now s

@@ -8,8 +8,8 @@ ghost use Rattle.wi_graph.specs.Reach.{Walks};
 ghost use Rattle.wi_graph.specs.Edges.{Edges, AreEdgesOf, edges_after, sheet_after};
 ghost use Rattle.wi_graph.specs.Latest.{LatestOfCone, OneIsLatest, LatestRises, LatestByStep, LatestIsAmong, EditDirties, NoneIsDirty, DirtyStays, FlushingBegins, FlushesOne};
 
-/// A cell is circular exactly where walks of references of every length begin with it, and exactly where one does that has as many
-/// steps as there are formulas and ends with a formula.
+/// A cell is circular exactly where walks of references of every length begin with it, and exactly where one does that
+/// has as many steps as there are formulas and ends with a formula.
 pub fn circular_cells_begin_long_walks()
     ensures every_length { (s : Sheet) (c : ℕ)
         → (circular s c ≡ true) ↔ ((n : ℕ) → (d : ℕ) × Walks n s c d) }

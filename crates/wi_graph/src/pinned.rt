@@ -13,8 +13,8 @@ use crate::within::{next_after, next_within};
 use std::alloc::{AllocError, Global};
 use wi_values::{Address, Rect};
 
-/// The cells of a cone that read a circular cell outside it. For each rectangle that a cell of the cone reads it takes at most
-/// a search among the circular cells for each that the cone and the rectangle have, and one more.
+/// The cells of a cone that read a circular cell outside it. For each rectangle that a cell of the cone reads it takes
+/// at most a search among the circular cells for each that the cone and the rectangle have, and one more.
 pub(crate) fn pinned_set(
     alloc: Global,
     reads: &ReadsByCell,
@@ -58,8 +58,8 @@ fn is_pinned(reads: &ReadsByCell, cell: Address, cyclic: &CellSet, cells: &CellS
     }
 }
 
-/// Whether a rectangle has a circular cell outside the cone. It takes at most a search among the circular cells for each
-/// that the cone and the rectangle have, and one more.
+/// Whether a rectangle has a circular cell outside the cone. It takes at most a search among the circular cells for
+/// each that the cone and the rectangle have, and one more.
 fn has_cyclic_outside(area: Rect, cyclic: &CellSet, cells: &CellSet) -> bool
     ensures { result ≡ has_cyclic_outside cyclic.now cells.now area }
 {

@@ -1,5 +1,5 @@
-//! Rooms for the rectangles that formulas read. An edit first makes its rooms and puts its pairs into the index; to commit it
-//! or to cancel it then needs no memory.
+//! Rooms for the rectangles that formulas read. An edit first makes its rooms and puts its pairs into the index; to
+//! commit it or to cancel it then needs no memory.
 
 ghost use Rattle.std.specs.Prelude.{◌≡◌, ◌==◌, ◌-◌, ℕ, None, false, if◌then◌else◌};
 ghost use Rattle.std.specs.Ordering.{nat_cmp};
@@ -68,8 +68,8 @@ pub(crate) fn cancel_rooms(rooms: &mut Rooms, readers: &mut RangeIndex, next: &m
     }
 }
 
-/// Puts rectangles, or none, in the place of what stands in a cell, and gives that. Where none come, the cell is left without a
-/// room.
+/// Puts rectangles, or none, in the place of what stands in a cell, and gives that. Where none come, the cell is left
+/// without a room.
 fn exchange(rooms: &mut Rooms, at: Address, room: Option<Rectangles>) -> Option<Rectangles>
     requires ordered { IsOrdered nat_cmp rooms.old }
     requires room { get nat_cmp rooms.old at ≡ None → items_of room ≡ None }

@@ -1,4 +1,5 @@
-//! Whether an edit closes a cycle, asked from both sides: among the dependents of the edited cell, and among what it is to read.
+//! Whether an edit closes a cycle, asked from both sides: among the dependents of the edited cell, and among what it is
+//! to read.
 
 ghost use Rattle.std.specs.Prelude.{◌≡◌, false, IsTrue, IfSome, IfNone, IfOk, length};
 ghost use Rattle.std.specs.Map.{keys_of};
@@ -20,9 +21,10 @@ use wi_parser::NewContent;
 use wi_ranges::{RangeIndex, RisingSet};
 use wi_values::Address;
 
-/// The cone of an edit; none where one cell gets something and isn't circular, and what it is to read, at any remove, isn't circular
-/// and isn't the cell. For such an edit two searches go side by side, among what depends on the cell and among what it is to read at
-/// any remove, and the work grows with the shorter one, beside that of listing the readers of a cell.
+/// The cone of an edit; none where one cell gets something and isn't circular, and what it is to read, at any remove,
+/// isn't circular and isn't the cell. For such an edit two searches go side by side, among what depends on the cell and
+/// among what it is to read at any remove, and the work grows with the shorter one, beside that of listing the readers
+/// of a cell.
 pub(crate) fn cone_unless_apart(
     alloc: Global,
     rooms: &Rooms,
@@ -78,8 +80,8 @@ fn is_for_open_cell(cyclic: &CellSet, next: &[Brought]) -> bool
     !meets_cyclic(next, cyclic)
 }
 
-/// The cells that read one of these, at any remove, with themselves; none where what one cell is to read, at any remove, isn't the
-/// cell. With each cell found as many steps go the other way as there are readers of it.
+/// The cells that read one of these, at any remove, with themselves; none where what one cell is to read, at any
+/// remove, isn't the cell. With each cell found as many steps go the other way as there are readers of it.
 fn both_sides(
     alloc: Global,
     rooms: &Rooms,

@@ -15,8 +15,8 @@ use wi_ranges::RangeIndex;
 use wi_tiles::{make_room, sweep_one};
 use wi_values::{Address, Rect};
 
-/// Makes rooms for what is to come, and puts its pairs into the index. If memory runs out, what stands in the rooms and the
-/// index is as before.
+/// Makes rooms for what is to come, and puts its pairs into the index. If memory runs out, what stands in the rooms and
+/// the index is as before.
 pub(crate) fn bring_in(
     rooms: &mut Rooms,
     readers: &mut RangeIndex,

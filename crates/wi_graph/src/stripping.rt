@@ -19,10 +19,10 @@ pub(crate) type ReadsByCell = BTreeMap<Address, Vec<Rect>>;
 /// Cells that wait, by a cell that they read.
 type Waiters = BTreeMap<Address, Vec<Address>>;
 
-/// Takes away from a set, again and again, each cell that reads none of the set; the cells of `pinned` stay, whatever they read. The work grows
-/// with the count of the cells, of the rectangles that they read, of the cells of the set in each of these, and, where the
-/// rectangle around the set meets it, of its rows where a cell of the set stands beside it, times logarithms. If memory runs
-/// out, some that could go stay.
+/// Takes away from a set, again and again, each cell that reads none of the set; the cells of `pinned` stay, whatever
+/// they read. The work grows with the count of the cells, of the rectangles that they read, of the cells of the set in
+/// each of these, and, where the rectangle around the set meets it, of its rows where a cell of the set stands beside
+/// it, times logarithms. If memory runs out, some that could go stay.
 pub(crate) fn strip(
     alloc: Global,
     mut areas: ReadsByCell,
@@ -94,8 +94,8 @@ fn open_read(
     }
 }
 
-/// One of a set that the rectangles have, if they have one. Rectangles that have none are dropped from the end of the list,
-/// and the last that is left begins at the row of the one found.
+/// One of a set that the rectangles have, if they have one. Rectangles that have none are dropped from the end of the
+/// list, and the last that is left begins at the row of the one found.
 fn first_read(areas: &mut Vec<Rect>, rest: &CellSet) -> Result<Option<Address>, AllocError>
     ensures kept { OnOk result ((d : ℕ) → contains nat_cmp rest.now d ≡ true
         → is_within_one areas.new.items d ≡ is_within_one areas.old.items d) }

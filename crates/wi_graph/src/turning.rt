@@ -32,11 +32,11 @@ pub(crate) struct Turns {
     pub(crate) ceased: Vec<Address>,
 }
 
-/// The cells that turn, circular or no longer so, once what is next is put in. Where nothing is next there are none. Of one cell that no
-/// formula reads, only what it is to read is looked at. Else the cone is searched for only if it is needed: not where
-/// one cell gets something else that reads neither it nor a formula, and isn't circular. Where it
-/// reads formulas, none of them circular, the work grows with the shorter of two searches, among what depends on the cell and among
-/// what it is to read at any remove.
+/// The cells that turn, circular or no longer so, once what is next is put in. Where nothing is next there are none. Of
+/// one cell that no formula reads, only what it is to read is looked at. Else the cone is searched for only if it is
+/// needed: not where one cell gets something else that reads neither it nor a formula, and isn't circular. Where it
+/// reads formulas, none of them circular, the work grows with the shorter of two searches, among what depends on the
+/// cell and among what it is to read at any remove.
 pub(crate) fn turns_of(
     alloc: Global,
     rooms: &Rooms,

@@ -4,7 +4,8 @@ ghost use Rattle.std.specs.Prelude.{◌≡◌, ℕ, Bool, false};
 
 use wi_values::Address;
 
-/// Cells that are watched. Where with each of them each that reads it is watched too, a search for dependents may stop at them.
+/// Cells that are watched. Where with each of them each that reads it is watched too, a search for dependents may stop
+/// at them.
 pub trait Watch {
     ghost watched: { Self → ℕ → Bool };
 

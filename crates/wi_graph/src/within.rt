@@ -14,9 +14,9 @@ use std::collections::BTreeSet;
 use std::ops::Bound;
 use wi_values::{Address, Rect};
 
-/// The first cell of a set in a rectangle, at a cell or after it, in row-major order. The work grows with the logarithm of the
-/// count of the set, once and for each row of the rectangle where a cell of the set beside it comes before the one found; where
-/// the rectangle around the set doesn't meet it, it is constant.
+/// The first cell of a set in a rectangle, at a cell or after it, in row-major order. The work grows with the logarithm
+/// of the count of the set, once and for each row of the rectangle where a cell of the set beside it comes before the
+/// one found; where the rectangle around the set doesn't meet it, it is constant.
 pub(crate) fn next_within(cells: &CellSet, area: Rect, from: Address) -> Option<Address>
     ensures found { IfSome result (IsAhead cells.now area from) }
     ensures first { (c : ℕ) → IsAhead cells.now area from c → IsFoundBy result c }

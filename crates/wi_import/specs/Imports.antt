@@ -20,7 +20,8 @@ pub data IsFieldContent : Bytes → Option Content → Type 0 where
 abbrev pub IsChange : Field → ℕ × Option Content → Type 0
 IsChange f change = (change.0 ≡ place f.row f.column) × IsFieldContent f.bytes change.1
 
--- One change for each field, in their order. All are UTF-8, and for cells of the sheet, empty ones too. Cells without a field stay.
+-- One change for each field, in their order. All are UTF-8, and for cells of the sheet, empty ones too. Cells without a
+-- field stay.
 pub record AreChanges (fields : List Field) (changes : List (ℕ × Option Content)) : Type 0 where
   pub texts : All (λ f. IsUtf8 f.bytes) fields
   pub inside : All IsInside fields

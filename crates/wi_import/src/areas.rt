@@ -31,7 +31,7 @@ pub(crate) fn areas(
     Ok(areas)
 }
 
-// The cells of the record in this row, from a column on, where it has fields.
+/// The cells of the record in this row, from a column on, where it has fields.
 fn area(row: usize, column: usize, fields: &[Vec<u8>]) -> Option<Rect>
     requires { list_any is_outside (fields_of row column (bytes_of fields.now)) ≡ false }
     ensures { result ≡ area_of_record row column (bytes_of fields.now) }

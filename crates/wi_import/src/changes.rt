@@ -37,7 +37,7 @@ pub(crate) fn changes(
     Ok(changes)
 }
 
-// How many fields these records have.
+/// How many fields these records have.
 fn field_count(records: &[Vec<Vec<u8>>]) -> usize {
     let mut count: usize = 0;
     for fields in records {
@@ -46,7 +46,7 @@ fn field_count(records: &[Vec<Vec<u8>>]) -> usize {
     count
 }
 
-// Appends what the cells of a record get, which is in this row, from a column on. On an error a part may be there.
+/// Appends what the cells of a record get, which is in this row, from a column on. On an error a part may be there.
 fn push_record(
     alloc: Global,
     row: usize,
@@ -65,7 +65,7 @@ fn push_record(
     Ok(())
 }
 
-// What the cell of a field gets.
+/// What the cell of a field gets.
 fn content(alloc: Global, field: &[u8]) -> Result<Option<Content>, AllocError>
     requires text { is_bad field.now ≡ false }
     requires short { is_too_long field.now ≡ false }

@@ -29,7 +29,7 @@ pub(crate) fn first_fault(at: Address, records: &[Vec<Vec<u8>>]) -> Option<Impor
     None
 }
 
-// Whether a field isn't UTF-8.
+/// Whether a field isn't UTF-8.
 fn has_bad_field(records: &[Vec<Vec<u8>>]) -> bool
     ensures { result
         ≡ list_any (λ fields. list_any (λ f. is_bad f.items) fields.items) records.now }
@@ -49,7 +49,7 @@ fn is_bad(field: &[u8]) -> bool
     str::from_utf8(field).is_err()
 }
 
-// Whether a field is too long for a text, and no number.
+/// Whether a field is too long for a text, and no number.
 fn has_long_field(records: &[Vec<Vec<u8>>]) -> bool
     ensures { result
         ≡ list_any (λ fields. list_any (λ f. is_too_long f.items) fields.items) records.now }
@@ -63,14 +63,14 @@ fn is_one_too_long(fields: &[Vec<u8>]) -> bool
     fields.iter().any(|field| is_too_long(field))
 }
 
-// Whether a field is too long for a text, and no number: only one of more bytes than a text may have is read.
+/// Whether a field is too long for a text, and no number: only one of more bytes than a text may have is read.
 fn is_too_long(field: &[u8]) -> bool
     ensures { result ≡ is_too_long field.now }
 {
     field.len() > MAX_TEXT && Fraction::read(field).is_none()
 }
 
-// Whether a field is for a cell outside the sheet.
+/// Whether a field is for a cell outside the sheet.
 fn leaves_sheet(at: Address, records: &[Vec<Vec<u8>>]) -> bool
     ensures { result
         ≡ list_any is_outside (fields_from (row_of at) (column_of at) (all_bytes records.now)) }
@@ -83,7 +83,7 @@ fn leaves_sheet(at: Address, records: &[Vec<Vec<u8>>]) -> bool
     false
 }
 
-// Whether a field of the record in this row, from a column of the sheet on, is for a cell outside the sheet.
+/// Whether a field of the record in this row, from a column of the sheet on, is for a cell outside the sheet.
 fn is_outside(row: usize, column: usize, fields: &[Vec<u8>]) -> bool
     requires { column < columns }
     ensures { result ≡ list_any is_outside (fields_of row column (bytes_of fields.now)) }

@@ -6,8 +6,8 @@ use std::alloc::{AllocError, AllocFailed};
 use thiserror::Error;
 use wi_csv::CsvFault;
 
-/// Why a text isn't imported. Of the first three the first in this order that a field has, wherever it stands; `Memory` may
-/// stand in for any of them.
+/// Why a text isn't imported. Of the first three the first in this order that a field has, wherever it stands; `Memory`
+/// may stand in for any of them.
 #[derive(Clone, Copy, PartialEq, Eq, Debug, Error)]
 pub enum ImportFault {
     /// A field isn't UTF-8.

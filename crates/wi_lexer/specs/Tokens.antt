@@ -21,7 +21,8 @@ bad_token = record { found = []; bad = true }
 abbrev pub then_tokens : List (Kind × Bytes) → Tokens → Tokens
 then_tokens ts more = record { found = ts ++ more.found; bad = more.bad }
 
--- The tokens of a text: none where only white space is left; a bad one where none begins; else the longest one and those of what follows it.
+-- The tokens of a text: none where only white space is left; a bad one where none begins; else the longest one and
+-- those of what follows it.
 pub data AreTokens : Bytes → Tokens → Type 0 where
   ended : (text : Bytes) → after_blanks text ≡ [] → AreTokens text no_tokens
   bad : (text : Bytes) → after_blanks text ≢ [] → NoToken (after_blanks text) → AreTokens text bad_token

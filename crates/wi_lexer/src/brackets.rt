@@ -9,7 +9,7 @@ use crate::cell::cell_len;
 use crate::runs::byte;
 use crate::token::Kind;
 
-// The length of `[.CELL` at the front, or 0 where it doesn't stand there.
+/// The length of `[.CELL` at the front, or 0 where it doesn't stand there.
 #[tactic(auto, unfolding(crate::specs::Inner::Reference::first_len))]
 fn first_len(text: &[u8]) -> usize
     ensures value { result ≡ first_len text.now }
@@ -22,7 +22,7 @@ fn first_len(text: &[u8]) -> usize
     if cell > 0 { 2 + cell } else { 0 }
 }
 
-// The length of `:.CELL]` at the front, or 0 where it doesn't stand there.
+/// The length of `:.CELL]` at the front, or 0 where it doesn't stand there.
 #[tactic(auto, unfolding(crate::specs::Inner::Rectangle::second_len))]
 fn second_len(text: &[u8]) -> usize
     ensures value { result ≡ second_len text.now }

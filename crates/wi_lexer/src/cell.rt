@@ -16,7 +16,7 @@ pub struct CellText<'a> {
     pub digits: &'a [u8],
 }
 
-// Whether a `$` stands first, and what follows it.
+/// Whether a `$` stands first, and what follows it.
 fn after_dollar(text: &[u8]) -> (bool, &[u8])
     ensures absolute { result.0 ≡ spec.begins_with_dollar text.now }
     ensures rest { result.1.now ≡ spec.after_dollar text.now }
@@ -27,7 +27,7 @@ fn after_dollar(text: &[u8]) -> (bool, &[u8])
     (false, text)
 }
 
-// The text cut into the parts of a cell, which it may not be.
+/// The text cut into the parts of a cell, which it may not be.
 pub(crate) fn cut(text: &[u8]) -> CellText<'_>
     ensures { spec.parts result ≡ spec.cut text.now }
 {
@@ -42,7 +42,7 @@ pub(crate) fn cut(text: &[u8]) -> CellText<'_>
     }
 }
 
-// How long a `$` at the front is.
+/// How long a `$` at the front is.
 fn dollar_len(text: &[u8]) -> usize
     ensures value { result ≡ spec.dollar_len text.now }
     ensures within { result ≤ length text.now }
@@ -74,7 +74,7 @@ fn row_len(text: &[u8]) -> usize
     if digits > 0 { dollar + digits } else { 0 }
 }
 
-// The length of the cell at the front, or 0 where none stands there.
+/// The length of the cell at the front, or 0 where none stands there.
 #[tactic(auto, unfolding(crate::specs::Inner::Cell::cell_len))]
 pub(crate) fn cell_len(text: &[u8]) -> usize
     ensures value { result ≡ spec.cell_len text.now }

@@ -7,8 +7,8 @@ ghost use Rattle.wi_lexer.specs.Rectangle.{IsRectangle};
 use crate::cell::{CellText, cut};
 use crate::runs::before_colon_len;
 
-/// The cells of a text that is known to be a reference to a rectangle. Of its bytes it looks at those up to the colon, and
-/// at the letters behind it.
+/// The cells of a text that is known to be a reference to a rectangle. Of its bytes it looks at those up to the colon,
+/// and at the letters behind it.
 #[tactic(auto, using(crate::proofs::RectangleLemmas::rectangle_long))]
 pub fn cells_in(text: &[u8]) -> (CellText<'_>, CellText<'_>)
     requires { IsRectangle text.now }

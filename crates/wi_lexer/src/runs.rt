@@ -42,7 +42,7 @@ pub(crate) fn before_colon_len(text: &[u8]) -> usize
     text.iter().take_while(|b| **b != b':').count()
 }
 
-// The byte there, or 0 past the end.
+/// The byte there, or 0 past the end.
 pub(crate) fn byte(text: &[u8], at: usize) -> u8
     ensures value { result ≡ slice_index text.now at }
     ensures within { 0 < result → at < length text.now }

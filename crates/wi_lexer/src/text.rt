@@ -25,7 +25,7 @@ pub fn text_content(alloc: Global, text: &str) -> Result<String, AllocError>
     Ok(content)
 }
 
-// Up to the last quote that may be the last of a text.
+/// Up to the last quote that may be the last of a text.
 pub(crate) fn text_len(text: &[u8]) -> usize
     ensures { result ≡ spec.text_len text.now }
 {

@@ -13,7 +13,8 @@ use crate::text::text_len;
 /// The kinds of tokens, as in OpenFormula, "Expression Syntax".
 #[derive(Clone, Copy, Debug, PartialEq, Eq)]
 pub enum Kind {
-    /// Digits, optionally a point and digits, or a point and digits; then optionally `e` or `E`, a sign or none, and digits.
+    /// Digits, optionally a point and digits, or a point and digits; then optionally `e` or `E`, a sign or none, and
+    /// digits.
     Number,
     /// `[.CELL]`; `cell_in` tells its cell.
     Reference,

@@ -9,8 +9,8 @@ use std::cmp::Ordering;
 use wi_value_functions::zero;
 use wi_values::{Text, Value};
 
-/// The order of two values, in which Empty counts as 0, the empty text or FALSE, as the other is. Linear in the shorter of two
-/// texts.
+/// The order of two values, in which Empty counts as 0, the empty text or FALSE, as the other is. Linear in the shorter
+/// of two texts.
 pub fn compare(alloc: Global, left: &Value, right: &Value) -> Ordering
     ensures { result ≡ value_order (beside right.now left.now) (beside left.now right.now) }
 {

@@ -14,7 +14,8 @@ use wi_arguments::{Argument, Lookup};
 use wi_value_functions::{NoValue, Stop, no_error};
 use wi_values::{Address, ErrorKind, Rect, Value};
 
-/// The rectangle that the argument at a place refers to, counted from 0, or the default where there is no such argument.
+/// The rectangle that the argument at a place refers to, counted from 0, or the default where there is no such
+/// argument.
 pub(crate) fn area_or(
     default: Rect,
     arguments: &[Argument],

@@ -101,7 +101,8 @@ fn of_text(alloc: Global, text: &str) -> Result<Criterion, AllocError>
     Ok(Criterion { relation, operand })
 }
 
-/// The relation whose operator a text begins with, and the text behind that; equality and the whole where it begins with none.
+/// The relation whose operator a text begins with, and the text behind that; equality and the whole where it begins
+/// with none.
 fn relation_first(text: &str) -> (Relation, &str)
     ensures { criterion_by operators text.now ≡ to_constant result.0 result.1.now }
 {

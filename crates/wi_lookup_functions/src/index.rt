@@ -14,8 +14,8 @@ use wi_arguments::{Argument, Lookup};
 use wi_value_functions::{NoValue, Stop};
 use wi_values::{Address, ErrorKind, Rect, Value};
 
-/// The value of a cell by its row and its column in a rectangle, or by its place along a row or a column. One cell is looked
-/// up, and those that the other arguments refer to.
+/// The value of a cell by its row and its column in a rectangle, or by its place along a row or a column. One cell is
+/// looked up, and those that the other arguments refer to.
 pub(crate) fn index_value<L: Lookup>(
     alloc: Global,
     arguments: &[Argument],

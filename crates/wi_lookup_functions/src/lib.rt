@@ -1,5 +1,5 @@
-//! MATCH, INDEX, VLOOKUP and HLOOKUP of OpenFormula, and the functions that go by criteria or by several rectangles side by
-//! side; and how values compare, and which of them match one that is sought or meet a criterion.
+//! MATCH, INDEX, VLOOKUP and HLOOKUP of OpenFormula, and the functions that go by criteria or by several rectangles
+//! side by side; and how values compare, and which of them match one that is sought or meet a criterion.
 #![tactic(auto)]
 
 mod arguments;

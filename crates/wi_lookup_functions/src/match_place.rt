@@ -14,8 +14,9 @@ use wi_arguments::{Argument, Lookup};
 use wi_value_functions::{NoValue, one, zero};
 use wi_values::{Address, ErrorKind, Value};
 
-/// The place, counted from 1, of a value in one row or one column. The filled cells of it are looked up one after another: for
-/// a match type of 0 up to the first that is equal, else all. If a cell's value isn't known, that cell is given.
+/// The place, counted from 1, of a value in one row or one column. The filled cells of it are looked up one after
+/// another: for a match type of 0 up to the first that is equal, else all. If a cell's value isn't known, that cell is
+/// given.
 pub(crate) fn match_value<L: Lookup>(arguments: &[Argument], lookup: &L) -> Result<Value, Address>
     ensures done { IfOk result (IsOfArguments (L.known_cell lookup.now) match_value arguments.now) }
     ensures missing { IfErr result (IsMissing (L.known_cell lookup.now) arguments.now) }

@@ -8,8 +8,8 @@ use crate::comparison::{order, rank};
 use std::cmp::Ordering;
 use wi_values::Value;
 
-/// The order of a value to the one sought, or `None` where they aren't of one kind: Empty and errors are of none. Linear
-/// in the shorter of two texts.
+/// The order of a value to the one sought, or `None` where they aren't of one kind: Empty and errors are of none.
+/// Linear in the shorter of two texts.
 pub(crate) fn match_order(value: &Value, sought: &Value) -> Option<Ordering>
     ensures { result ≡ if same_kind value.now sought.now
         then Some (value_order value.now sought.now) else None }

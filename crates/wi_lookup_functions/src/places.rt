@@ -18,8 +18,8 @@ pub(crate) fn have_one_size(first: Rect, areas: &[Rect]) -> bool
     areas.iter().all(|area| same_extent(first, *area))
 }
 
-/// The first place, after one that was passed where there is one, at which a cell of one of the rectangles is filled. The work is
-/// that of `next_filled` for each of them.
+/// The first place, after one that was passed where there is one, at which a cell of one of the rectangles is filled.
+/// The work is that of `next_filled` for each of them.
 #[tactic(auto, using(crate::proofs::InOrder::has_size))]
 pub(crate) fn next_place<L: Lookup>(
     first: Rect,

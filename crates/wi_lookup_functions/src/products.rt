@@ -20,10 +20,10 @@ use wi_fraction::Fraction;
 use wi_value_functions::{NoValue, Stop, add, as_value, multiply, one, zero};
 use wi_values::{Address, ErrorKind, Rect, Value};
 
-/// SUMPRODUCT: the sum, over the places of rectangles of one size, of the products of the cells that stand there; a cell that isn't
-/// a number counts 0. The first error met, by place and then from the left, is the result; `BadValue` where an argument isn't a
-/// reference or the rectangles aren't of one size. It takes a search for the next filled cell of each rectangle at each place
-/// where a cell of one of them is filled.
+/// SUMPRODUCT: the sum, over the places of rectangles of one size, of the products of the cells that stand there; a
+/// cell that isn't a number counts 0. The first error met, by place and then from the left, is the result; `BadValue`
+/// where an argument isn't a reference or the rectangles aren't of one size. It takes a search for the next filled cell
+/// of each rectangle at each place where a cell of one of them is filled.
 pub(crate) fn sum_product_value<L: Lookup>(
     alloc: Global,
     arguments: &[Argument],

@@ -67,8 +67,8 @@ fn is_match(rule: Rule, value: &Value, sought: &Value) -> bool
     }
 }
 
-/// The place, from 0, of the value sought along one row or one column. The work grows with the count of its filled cells
-/// up to the one after which nothing is found instead.
+/// The place, from 0, of the value sought along one row or one column. The work grows with the count of its filled
+/// cells up to the one after which nothing is found instead.
 pub(crate) fn place_along<L: Lookup>(
     rule: Rule,
     sought: &Value,

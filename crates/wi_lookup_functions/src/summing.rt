@@ -20,9 +20,9 @@ use wi_fraction::Fraction;
 use wi_value_functions::{NoValue, Stop, add, as_value, zero};
 use wi_values::{Address, ErrorKind, Rect, Value};
 
-/// SUMIF: the sum of the third argument's cells at the places where the first's meet the criterion that the second is; without a
-/// third it is the first. The first error met, from the left and the top, is the result, and `BadValue` where the two are not of
-/// one size. It walks through the filled cells of the first, and tries the criterion at each.
+/// SUMIF: the sum of the third argument's cells at the places where the first's meet the criterion that the second is;
+/// without a third it is the first. The first error met, from the left and the top, is the result, and `BadValue` where
+/// the two are not of one size. It walks through the filled cells of the first, and tries the criterion at each.
 pub(crate) fn sum_if_value<L: Lookup>(
     alloc: Global,
     arguments: &[Argument],

@@ -18,8 +18,9 @@ use wi_arguments::{Argument, Lookup};
 use wi_value_functions::{NoValue, Stop, zero};
 use wi_values::{Address, Value};
 
-/// The value in a column of a rectangle, in the row whose first cell is found. The filled cells of the first column are looked
-/// up one after another: where they aren't told to be in order up to the first that is equal, else all; and then one cell.
+/// The value in a column of a rectangle, in the row whose first cell is found. The filled cells of the first column are
+/// looked up one after another: where they aren't told to be in order up to the first that is equal, else all; and then
+/// one cell.
 pub(crate) fn v_lookup_value<L: Lookup>(
     alloc: Global,
     arguments: &[Argument],

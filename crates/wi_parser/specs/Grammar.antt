@@ -21,7 +21,8 @@ tree_line (binary op l r) = line_of op
 tree_line t = 0
 
 abbrev mutual
-  -- An operand without parentheses stands at its operator's line or a tighter one, and the right one of two at a tighter one.
+  -- An operand without parentheses stands at its operator's line or a tighter one, and the right one of two at a
+  -- tighter one.
   pub IsGrammatical : Tree → Type 0
   IsGrammatical (parenthesized t) = IsGrammatical t
   IsGrammatical (signed s t) = (tree_line t ≤ 1) × IsGrammatical t

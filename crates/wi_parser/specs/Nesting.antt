@@ -6,7 +6,8 @@ use Rattle.wi_parser.specs.Tree.{Tree, Trees, number, text, cell, rectangle, par
 use Rattle.wi_parser.specs.Symbol.{Symbol, open_parenthesis, close_parenthesis, infix_mark}
 
 abbrev mutual
-  -- How many parenthesized trees and calls stand one inside another, at most. The parentheses of a what-if hold no tree.
+  -- How many parenthesized trees and calls stand one inside another, at most. The parentheses of a what-if hold no
+  -- tree.
   pub depth : Tree → ℕ
   depth (number x) = 0
   depth (text s) = 0

@@ -17,7 +17,8 @@ pub record IsFunctionName (f : Bytes) : Type 0 where
   pub capitals : in_capitals f ≡ f
   pub other : str_eq_ignore_ascii_case f (codes "MULTIPLE.OPERATIONS") ≡ false
 
--- A text can have the symbol: its number is a decimal without a sign, its cells are in the sheet, its name is a function's.
+-- A text can have the symbol: its number is a decimal without a sign, its cells are in the sheet, its name is a
+-- function's.
 abbrev pub IsWritable : Symbol → Type 0
 IsWritable (numeral x) = IsUnsignedDecimal x
 IsWritable (reference r) = in_sheet r ≡ true

@@ -37,7 +37,7 @@ impl Content {
         Ok(Content::Constant(imported_value(alloc, text)?))
     }
 
-    // The text after an apostrophe.
+    /// The text after an apostrophe.
     fn taken_as_text(alloc: Global, text: &str) -> Result<Content, ParseFault>
         ensures { ReadsAs (taken_as_text text.now) result }
     {

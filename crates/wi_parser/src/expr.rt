@@ -72,8 +72,8 @@ pub struct WhatIf {
     pub pairs: Vec<Pair>,
 }
 
-/// The tree of a formula, which keeps parentheses. What takes more room than a number stands behind a box, since each tree
-/// has room for the largest kind.
+/// The tree of a formula, which keeps parentheses. What takes more room than a number stands behind a box, since each
+/// tree has room for the largest kind.
 #[derive(Drop)]
 pub enum Expr {
     Number(Fraction),
@@ -112,7 +112,7 @@ impl Expr {
     }
 }
 
-// An operand of a copied tree. It stands apart so that a tree's copy needs little stack for each level.
+/// An operand of a copied tree. It stands apart so that a tree's copy needs little stack for each level.
 #[cycle(copying)]
 fn copied(alloc: Global, expr: &Expr) -> Result<Box<Expr>, AllocError>
     ensures { IfOk result (λ e. tree_of e.value ≡ tree_of expr.now) }
@@ -120,7 +120,7 @@ fn copied(alloc: Global, expr: &Expr) -> Result<Box<Expr>, AllocError>
     Ok(Box::new(alloc, expr.copy(alloc)?)?)
 }
 
-// An operator between copies of its operands. It stands apart for the same reason.
+/// An operator between copies of its operands. It stands apart for the same reason.
 #[cycle(copying)]
 #[inline(never)]
 fn binary_copied(alloc: Global, op: Operator, left: &Expr, right: &Expr) -> Result<Expr, AllocError>

@@ -41,7 +41,7 @@ struct Lists {
 }
 
 impl Lists {
-    // A copy of the inputs and the rectangles. The work, and the memory that it takes, grow with their counts.
+    /// A copy of the inputs and the rectangles. The work, and the memory that it takes, grow with their counts.
     fn copy(&self, alloc: Global) -> Result<Lists, AllocError>
         ensures inputs { IfOk result (λ l. l.inputs.items ≡ self.now.inputs.items) }
         ensures rectangles { IfOk result (λ l. l.rectangles.items ≡ self.now.rectangles.items) }
@@ -97,8 +97,8 @@ impl Formula {
         &self.lists.inputs
     }
 
-    /// The rectangles of its precedents, the cells that it reads, from the left; one cell is a rectangle too. The inputs of
-    /// its what-ifs are only named, and are no precedents.
+    /// The rectangles of its precedents, the cells that it reads, from the left; one cell is a rectangle too. The
+    /// inputs of its what-ifs are only named, and are no precedents.
     pub fn rectangles(&self) -> &[Rect]
         ensures { result.now ≡ rectangles_of self.now }
     {
@@ -115,8 +115,8 @@ impl Formula {
         Ok(Formula { expr, lists })
     }
 
-    /// The formula for a cell so many rows below and columns to the right of the one that has it: the relative parts
-    /// of its references move as far, those of its what-ifs too, and the absolute parts stay. It leaves the sheet where a
+    /// The formula for a cell so many rows below and columns to the right of the one that has it: the relative parts of
+    /// its references move as far, those of its what-ifs too, and the absolute parts stay. It leaves the sheet where a
     /// relative part of any reference does.
     pub fn shift(&self, rows: i64, columns: i64) -> Result<Formula, ShiftFault>
         ensures { ShiftsTo (shifted rows columns self.now) result }
@@ -150,7 +150,7 @@ impl Formula {
     }
 }
 
-// Appends the inputs of a tree's what-ifs, and the rectangles that it reads.
+/// Appends the inputs of a tree's what-ifs, and the rectangles that it reads.
 #[cycle(leaves)]
 fn push_leaves(
     expr: &Expr,
@@ -188,7 +188,7 @@ fn push_leaves(
     }
 }
 
-// Appends the same of trees.
+/// Appends the same of trees.
 #[cycle(leaves)]
 fn push_all_leaves(
     trees: &[Expr],
@@ -206,7 +206,7 @@ fn push_all_leaves(
     Ok(())
 }
 
-// Appends the inputs of pairs, and the rectangles of their replacement cells.
+/// Appends the inputs of pairs, and the rectangles of their replacement cells.
 fn push_pairs(
     pairs: &[Pair],
     inputs: &mut Vec<Address>,
@@ -224,7 +224,7 @@ fn push_pairs(
     Ok(())
 }
 
-// Appends a rectangle.
+/// Appends a rectangle.
 fn push_area(rectangles: &mut Rectangles, area: Rect) -> Result<(), AllocError>
     ensures { IfOk result (λ _. rectangles.new.items ≡ rectangles.old.items ++ area ∷ []) }
 {
@@ -232,7 +232,7 @@ fn push_area(rectangles: &mut Rectangles, area: Rect) -> Result<(), AllocError>
     Ok(())
 }
 
-// The rectangle of one cell.
+/// The rectangle of one cell.
 fn cell_area(at: Address) -> Rect
     ensures { result ≡ cell_area at }
 {

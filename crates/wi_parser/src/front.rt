@@ -27,7 +27,7 @@ pub(crate) fn after<'a>(front: &str, text: &'a str) -> Option<&'a str>
     text.strip_prefix(front)
 }
 
-// The text after the prefix `of:`, where it begins with it.
+/// The text after the prefix `of:`, where it begins with it.
 fn after_prefix(text: &str) -> &str
     ensures { result.now ≡ spec.after_prefix text.now }
 {

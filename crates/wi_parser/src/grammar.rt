@@ -25,7 +25,7 @@ struct Grammar<F> {
 }
 
 impl<F: Fn(Global, &mut Symbols<'_>, usize) -> Result<Expr, ParseFault>> Grammar<F> {
-    // What stands in parentheses.
+    /// What stands in parentheses.
     fn inner(&self, symbols: &mut Symbols<'_>) -> Result<Expr, ParseFault>
         requires { Nests self.now.depth (F.pre self.now.expression) (F.post self.now.expression) }
         ensures finds { Finds (reader.expression self.now.depth symbols.old) result symbols.new }
@@ -34,7 +34,7 @@ impl<F: Fn(Global, &mut Symbols<'_>, usize) -> Result<Expr, ParseFault>> Grammar
         (self.expression)(self.alloc, symbols, self.depth)
     }
 
-    // What follows a parameter: the others behind those found, and the parenthesis that closes.
+    /// What follows a parameter: the others behind those found, and the parenthesis that closes.
     fn more_parameters(
         &self,
         symbols: &mut Symbols<'_>,
@@ -55,7 +55,7 @@ impl<F: Fn(Global, &mut Symbols<'_>, usize) -> Result<Expr, ParseFault>> Grammar
         Ok(())
     }
 
-    // The parameters of a call, behind those found, and the parenthesis that closes.
+    /// The parameters of a call, behind those found, and the parenthesis that closes.
     fn parameters(&self, symbols: &mut Symbols<'_>, found: &mut Vec<Expr>) -> Result<(), ParseFault>
         requires { Nests self.now.depth (F.pre self.now.expression) (F.post self.now.expression) }
         ensures finds { FindsMore (put_before found.old.items
@@ -70,7 +70,7 @@ impl<F: Fn(Global, &mut Symbols<'_>, usize) -> Result<Expr, ParseFault>> Grammar
         self.more_parameters(symbols, found)
     }
 
-    // An expression after the parenthesis that opens, and the one that closes.
+    /// An expression after the parenthesis that opens, and the one that closes.
     fn enclosed(&self, symbols: &mut Symbols<'_>) -> Result<Expr, ParseFault>
         requires { Nests self.now.depth (F.pre self.now.expression) (F.post self.now.expression) }
         ensures finds { Finds (reader.read_then (λ t. reader.then_close (tree.parenthesized t))
@@ -84,7 +84,7 @@ impl<F: Fn(Global, &mut Symbols<'_>, usize) -> Result<Expr, ParseFault>> Grammar
         Ok(parenthesized(self.alloc, inner)?)
     }
 
-    // The call of the function with this name, whose parameters follow.
+    /// The call of the function with this name, whose parameters follow.
     fn called(&self, name: &Text, symbols: &mut Symbols<'_>) -> Result<Expr, ParseFault>
         requires { Nests self.now.depth (F.pre self.now.expression) (F.post self.now.expression) }
         ensures finds { Finds (reader.called (reader.expression self.now.depth) name.now
@@ -99,7 +99,7 @@ impl<F: Fn(Global, &mut Symbols<'_>, usize) -> Result<Expr, ParseFault>> Grammar
         Ok(call(self.alloc, name, parameters)?)
     }
 
-    // A number, a text, a cell, a rectangle, an expression in parentheses, a what-if, or a call.
+    /// A number, a text, a cell, a rectangle, an expression in parentheses, a what-if, or a call.
     fn atom(&self, symbols: &mut Symbols<'_>) -> Result<Expr, ParseFault>
         requires { Nests self.now.depth (F.pre self.now.expression) (F.post self.now.expression) }
         ensures finds { Finds (reader.atom (reader.expression self.now.depth) symbols.old)
@@ -125,7 +125,7 @@ impl<F: Fn(Global, &mut Symbols<'_>, usize) -> Result<Expr, ParseFault>> Grammar
         }
     }
 
-    // Any number of signs, and an atom.
+    /// Any number of signs, and an atom.
     fn prefixed(&self, symbols: &mut Symbols<'_>) -> Result<Expr, ParseFault>
         requires { Nests self.now.depth (F.pre self.now.expression) (F.post self.now.expression) }
         ensures finds { Finds (reader.line (reader.expression self.now.depth) 1 symbols.old)
@@ -139,7 +139,7 @@ impl<F: Fn(Global, &mut Symbols<'_>, usize) -> Result<Expr, ParseFault>> Grammar
         Ok(signed(self.alloc, sign, operand)?)
     }
 
-    // An operand with its signs, and any number of percent marks.
+    /// An operand with its signs, and any number of percent marks.
     fn percents(&self, symbols: &mut Symbols<'_>) -> Result<Expr, ParseFault>
         requires { Nests self.now.depth (F.pre self.now.expression) (F.post self.now.expression) }
         ensures finds { Finds (reader.line (reader.expression self.now.depth) 2 symbols.old)
@@ -153,8 +153,8 @@ impl<F: Fn(Global, &mut Symbols<'_>, usize) -> Result<Expr, ParseFault>> Grammar
         Ok(operand)
     }
 
-    // A line of the grammar from percents, which are line 2, to comparisons: an operand, and each operator of the line or a
-    // tighter one, with a right operand of the line below the operator's.
+    /// A line of the grammar from percents, which are line 2, to comparisons: an operand, and each operator of the line
+    /// or a tighter one, with a right operand of the line below the operator's.
     fn line(&self, symbols: &mut Symbols<'_>, line: u8) -> Result<Expr, ParseFault>
         requires nests { Nests self.now.depth (F.pre self.now.expression)
             (F.post self.now.expression) }

@@ -16,7 +16,8 @@ use crate::symbol::Symbol;
 /// How many parentheses may be open at once, and how many signs may stand one after another.
 pub const MAX_DEPTH: usize = 64;
 
-/// The first cause for which the symbols are refused before they are read. Most formulas have no bad token, which one look tells.
+/// The first cause for which the symbols are refused before they are read. Most formulas have no bad token, which one
+/// look tells.
 pub(crate) fn refusal_of(symbols: &[Symbol]) -> Option<ParseFault>
     ensures { result ≡ spec.refusal_of (all_meant symbols.now) }
 {
@@ -26,7 +27,7 @@ pub(crate) fn refusal_of(symbols: &[Symbol]) -> Option<ParseFault>
     depth_refusal(symbols)
 }
 
-// The first cause, where there may be a bad token.
+/// The first cause, where there may be a bad token.
 fn first_refusal(symbols: &[Symbol]) -> Option<ParseFault>
     ensures { result ≡ spec.refusal_of (all_meant symbols.now) }
 {
@@ -39,7 +40,7 @@ fn first_refusal(symbols: &[Symbol]) -> Option<ParseFault>
     depth_refusal(symbols)
 }
 
-// The refusal of what nests too deep.
+/// The refusal of what nests too deep.
 fn depth_refusal(symbols: &[Symbol]) -> Option<ParseFault>
     ensures { result ≡ (if nesting.is_too_deep (all_meant symbols.now)
         then Some ParseFault.TooDeep else None) }
@@ -108,7 +109,7 @@ fn is_sign(symbol: &Symbol) -> bool
     }
 }
 
-// No more symbols than the limit, as most formulas have, can't nest too deep.
+/// No more symbols than the limit, as most formulas have, can't nest too deep.
 fn is_too_deep(symbols: &[Symbol]) -> bool
     ensures { result ≡ nesting.is_too_deep (all_meant symbols.now) }
 {
@@ -118,7 +119,7 @@ fn is_too_deep(symbols: &[Symbol]) -> bool
     opens_too_many(symbols) || repeats_signs(symbols)
 }
 
-// Whether more than 64 parentheses are open at once.
+/// Whether more than 64 parentheses are open at once.
 fn opens_too_many(symbols: &[Symbol]) -> bool
     ensures { IsTrue result ↔ (max_depth < deepest 0 (all_meant symbols.now)) }
 {
@@ -142,7 +143,7 @@ fn opens_too_many(symbols: &[Symbol]) -> bool
     false
 }
 
-// Whether more than 64 signs stand one after another.
+/// Whether more than 64 signs stand one after another.
 fn repeats_signs(symbols: &[Symbol]) -> bool
     ensures { IsTrue result ↔ (max_depth < most_signs 0 (all_meant symbols.now)) }
 {

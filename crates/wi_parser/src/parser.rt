@@ -25,9 +25,9 @@ use std::alloc::Global;
 pub const MAX_FORMULA: usize = 4_096;
 
 /// The formula of a text that begins with `=` or `of:=`, by the grammar of OpenFormula (OpenDocument 1.3 part 4,
-/// "Expression Syntax") in this project's profile. Of several faults the first is answered in the order of `ParseFault`; those of
-/// addresses, numbers and nesting are looked for in all tokens before the first bad one. `Memory` may stand in place of any answer
-/// but `TooLong`.
+/// "Expression Syntax") in this project's profile. Of several faults the first is answered in the order of
+/// `ParseFault`; those of addresses, numbers and nesting are looked for in all tokens before the first bad one.
+/// `Memory` may stand in place of any answer but `TooLong`.
 pub fn parse(alloc: Global, text: &str) -> Result<Formula, ParseFault>
     // the tree, or the first cause for which there is none
     ensures parsed { ReadsAs (parsed text.now) result }
@@ -60,7 +60,7 @@ pub(crate) fn parse_body(
     Ok(Formula::new(alloc, expr)?)
 }
 
-// The tree that all of the symbols are read as.
+/// The tree that all of the symbols are read as.
 fn whole(alloc: Global, symbols: &[Symbol]) -> Result<Expr, ParseFault>
     ensures { FindsWhole (reader.whole (max_depth + 1) (all_meant symbols.now)) result }
 {

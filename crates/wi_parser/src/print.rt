@@ -32,7 +32,7 @@ pub(crate) fn push_formula(expr: &Expr, out: &mut String) -> Result<(), AllocErr
     push_tree(expr, out)
 }
 
-// Appends the text of a tree. On an error a part of it may be there.
+/// Appends the text of a tree. On an error a part of it may be there.
 #[cycle(print)]
 fn push_tree(expr: &Expr, out: &mut String) -> Result<(), AllocError>
     ensures { AppendsText result (string_bytes out.old) (string_bytes out.new)
@@ -55,7 +55,7 @@ fn push_tree(expr: &Expr, out: &mut String) -> Result<(), AllocError>
     }
 }
 
-// Appends a tree in parentheses. On an error a part of it may be there.
+/// Appends a tree in parentheses. On an error a part of it may be there.
 #[cycle(print)]
 fn push_parenthesized(inner: &Expr, out: &mut String) -> Result<(), AllocError>
     ensures { AppendsText result (string_bytes out.old) (string_bytes out.new)
@@ -66,7 +66,7 @@ fn push_parenthesized(inner: &Expr, out: &mut String) -> Result<(), AllocError>
     out.push_str(")")
 }
 
-// Appends a sign and its operand. On an error a part of them may be there.
+/// Appends a sign and its operand. On an error a part of them may be there.
 #[cycle(print)]
 fn push_signed(sign: Sign, operand: &Expr, out: &mut String) -> Result<(), AllocError>
     ensures { AppendsText result (string_bytes out.old) (string_bytes out.new)
@@ -76,7 +76,7 @@ fn push_signed(sign: Sign, operand: &Expr, out: &mut String) -> Result<(), Alloc
     push_tree(operand, out)
 }
 
-// Appends an operand and its percent mark. On an error a part of them may be there.
+/// Appends an operand and its percent mark. On an error a part of them may be there.
 #[cycle(print)]
 fn push_percent(operand: &Expr, out: &mut String) -> Result<(), AllocError>
     ensures { AppendsText result (string_bytes out.old) (string_bytes out.new)
@@ -86,7 +86,7 @@ fn push_percent(operand: &Expr, out: &mut String) -> Result<(), AllocError>
     out.push_str("%")
 }
 
-// Appends an operator and the operand after it. On an error a part of them may be there.
+/// Appends an operator and the operand after it. On an error a part of them may be there.
 #[cycle(print)]
 fn push_operation(op: Operator, operand: &Expr, out: &mut String) -> Result<(), AllocError>
     ensures { AppendsText result (string_bytes out.old) (string_bytes out.new)
@@ -96,7 +96,7 @@ fn push_operation(op: Operator, operand: &Expr, out: &mut String) -> Result<(), 
     push_tree(operand, out)
 }
 
-// Appends a call. On an error a part of it may be there.
+/// Appends a call. On an error a part of it may be there.
 #[cycle(print)]
 fn push_call(name: &Text, parameters: &[Expr], out: &mut String) -> Result<(), AllocError>
     ensures { AppendsText result (string_bytes out.old) (string_bytes out.new)
@@ -107,7 +107,7 @@ fn push_call(name: &Text, parameters: &[Expr], out: &mut String) -> Result<(), A
     push_parameters(parameters, out)
 }
 
-// Appends parameters and the parenthesis that closes. On an error a part of them may be there.
+/// Appends parameters and the parenthesis that closes. On an error a part of them may be there.
 #[cycle(print)]
 fn push_parameters(parameters: &[Expr], out: &mut String) -> Result<(), AllocError>
     ensures { AppendsText result (string_bytes out.old) (string_bytes out.new)
@@ -122,7 +122,7 @@ fn push_parameters(parameters: &[Expr], out: &mut String) -> Result<(), AllocErr
     out.push_str(")")
 }
 
-// Appends a text in double quotes, a quote inside doubled. On an error a part of it may be there.
+/// Appends a text in double quotes, a quote inside doubled. On an error a part of it may be there.
 fn push_quoted(content: &str, out: &mut String) -> Result<(), AllocError>
     ensures { AppendsText
         result (string_bytes out.old) (string_bytes out.new) (quoted content.now) }
@@ -138,7 +138,7 @@ fn push_quoted(content: &str, out: &mut String) -> Result<(), AllocError>
     out.push_str("\"")
 }
 
-// Appends a number. On an error the text is as before.
+/// Appends a number. On an error the text is as before.
 fn push_number(x: Fraction, out: &mut String) -> Result<(), AllocError>
     ensures ok { OnOk result (string_bytes out.new ≡ string_bytes out.old ++ decimal_text x) }
     ensures err { OnErr result (string_bytes out.new ≡ string_bytes out.old) }
@@ -152,7 +152,7 @@ fn dollar(is_absolute: bool) -> &'static str
     if is_absolute { "$" } else { "" }
 }
 
-// Appends a reference. On an error a part of it may be there.
+/// Appends a reference. On an error a part of it may be there.
 fn push_reference(at: Reference, out: &mut String) -> Result<(), AllocError>
     ensures ok { OnOk result
         (string_bytes out.new ≡ string_bytes out.old ++ reference_text (cell_named at)) }
@@ -163,7 +163,7 @@ fn push_reference(at: Reference, out: &mut String) -> Result<(), AllocError>
     out.push_str("]")
 }
 
-// Appends a reference to a rectangle. On an error a part of it may be there.
+/// Appends a reference to a rectangle. On an error a part of it may be there.
 fn push_rectangle(corners: Corners, out: &mut String) -> Result<(), AllocError>
     ensures ok { OnOk result (string_bytes out.new ≡ string_bytes out.old
         ++ rectangle_text (cell_named corners.one) (cell_named corners.other)) }
@@ -176,7 +176,7 @@ fn push_rectangle(corners: Corners, out: &mut String) -> Result<(), AllocError>
     out.push_str("]")
 }
 
-// Appends the cell of a reference. On an error a part of it may be there.
+/// Appends the cell of a reference. On an error a part of it may be there.
 fn push_cell(at: Reference, out: &mut String) -> Result<(), AllocError>
     ensures ok { OnOk result
         (string_bytes out.new ≡ string_bytes out.old ++ cell_text (cell_named at)) }
@@ -188,7 +188,7 @@ fn push_cell(at: Reference, out: &mut String) -> Result<(), AllocError>
     at.at.push_row(out)
 }
 
-// Appends a what-if. On an error a part of it may be there.
+/// Appends a what-if. On an error a part of it may be there.
 fn push_what_if(formula_cell: Reference, pairs: &[Pair], out: &mut String) -> Result<(), AllocError>
     ensures ok { OnOk result (string_bytes out.new
         ≡ string_bytes out.old ++ tree_text (tree.what_if formula_cell (map pair_of pairs.now))) }
@@ -200,7 +200,7 @@ fn push_what_if(formula_cell: Reference, pairs: &[Pair], out: &mut String) -> Re
     out.push_str(")")
 }
 
-// Appends inputs with their replacement cells. On an error a part of them may be there.
+/// Appends inputs with their replacement cells. On an error a part of them may be there.
 fn push_pairs(pairs: &[Pair], out: &mut String) -> Result<(), AllocError>
     ensures ok { OnOk result (string_bytes out.new ≡ string_bytes out.old ++ pairs_text pairs.now) }
     ensures kept { StartsWith (string_bytes out.new) (string_bytes out.old) }
@@ -211,7 +211,7 @@ fn push_pairs(pairs: &[Pair], out: &mut String) -> Result<(), AllocError>
     Ok(())
 }
 
-// Appends an input and its replacement cell, each after a separator. On an error a part of them may be there.
+/// Appends an input and its replacement cell, each after a separator. On an error a part of them may be there.
 #[tactic(auto, using(crate::proofs::PrintLemmas::starts_with_trans, crate::proofs::PrintLemmas::starts_more, crate::proofs::PrintLemmas::starts_itself))]
 fn push_pair(pair: Pair, out: &mut String) -> Result<(), AllocError>
     ensures ok { OnOk result (string_bytes out.new
@@ -224,7 +224,7 @@ fn push_pair(pair: Pair, out: &mut String) -> Result<(), AllocError>
     push_reference(pair.replacement, out)
 }
 
-// How an operator is written.
+/// How an operator is written.
 fn operator_text(op: Operator) -> &'static str
     ensures { result.now ≡ spec.operator_text op }
 {
@@ -244,7 +244,7 @@ fn operator_text(op: Operator) -> &'static str
     }
 }
 
-// How a sign is written.
+/// How a sign is written.
 fn sign_text(sign: Sign) -> &'static str
     ensures { result.now ≡ spec.operator_text (written_as sign) }
 {

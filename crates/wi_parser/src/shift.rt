@@ -117,7 +117,7 @@ pub(crate) fn shifted(
     }
 }
 
-// A part of a tree, in a box.
+/// A part of a tree, in a box.
 #[cycle(shift)]
 fn boxed(alloc: Global, expr: &Expr, rows: i64, columns: i64) -> Result<Box<Expr>, AllocError>
     ensures { IfOk result (λ b. tree_of b.value
@@ -126,7 +126,7 @@ fn boxed(alloc: Global, expr: &Expr, rows: i64, columns: i64) -> Result<Box<Expr
     Ok(Box::new(alloc, shifted(alloc, expr, rows, columns)?)?)
 }
 
-// An operator between its operands, both moved. It stands apart so that a level needs little stack.
+/// An operator between its operands, both moved. It stands apart so that a level needs little stack.
 #[cycle(shift)]
 #[inline(never)]
 fn binary_shifted(
@@ -145,7 +145,7 @@ fn binary_shifted(
     binary(alloc, op, left, right)
 }
 
-// The parameters of a call.
+/// The parameters of a call.
 #[cycle(shift)]
 fn each_shifted(
     alloc: Global,
@@ -163,7 +163,7 @@ fn each_shifted(
     Ok(moved)
 }
 
-// The inputs of a what-if move as the cells do that it reads.
+/// The inputs of a what-if move as the cells do that it reads.
 fn what_if(
     alloc: Global,
     f: &Reference,
@@ -238,7 +238,7 @@ fn column_moved(r: &Reference, columns: i64) -> Option<u32>
     part(r.column_is_absolute, COLUMNS, columns, r.at.column())
 }
 
-// A row or a column of a sheet that has so many, moved unless it is absolute; none outside the sheet.
+/// A row or a column of a sheet that has so many, moved unless it is absolute; none outside the sheet.
 fn part(is_absolute: bool, size: u32, by: i64, at: u32) -> Option<u32>
     requires { at < size }
     ensures value { result ≡ shift.part is_absolute size by at }

@@ -88,7 +88,7 @@ fn cell_named(cell: CellText<'_>) -> Symbol
     }
 }
 
-// The reference to a cell, where the sheet has it.
+/// The reference to a cell, where the sheet has it.
 fn reference_to(cell: CellText<'_>) -> Option<Reference>
     ensures { result ≡ reference_to (parts cell.entry) }
 {

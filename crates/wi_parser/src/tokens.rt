@@ -23,7 +23,7 @@ pub(crate) fn symbols_of(alloc: Global, front: &Front<'_>) -> Result<Vec<Symbol>
     Ok(symbols)
 }
 
-// Appends the symbols of the tokens, up to the first bad one.
+/// Appends the symbols of the tokens, up to the first bad one.
 fn push_symbols(alloc: Global, text: &str, symbols: &mut Vec<Symbol>) -> Result<(), AllocError>
     ensures { IfOk result (λ _. all_meant symbols.new.items
         ≡ all_meant symbols.old.items ++ symbols_of (tokens text.now)) }

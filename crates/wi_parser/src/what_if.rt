@@ -34,7 +34,7 @@ pub(crate) fn what_if(alloc: Global, symbols: &mut Symbols<'_>) -> Result<Expr, 
     Ok(expr::what_if(alloc, formula_cell, &[first, second])?)
 }
 
-// The reference after the parenthesis that opens.
+/// The reference after the parenthesis that opens.
 fn formula_cell(symbols: &mut Symbols<'_>) -> Option<Reference>
     ensures finds { MatchOption result
         (option_and_then reference_at (after_open symbols.old) ≡ None)
@@ -47,7 +47,7 @@ fn formula_cell(symbols: &mut Symbols<'_>) -> Option<Reference>
     symbols.take_reference()
 }
 
-// An input, and its replacement cell.
+/// An input, and its replacement cell.
 #[tactic(auto, unfolding(crate::specs::Inner::Reader::pair_at))]
 fn pair(symbols: &mut Symbols<'_>) -> Option<Pair>
     ensures finds { MatchOption result (pair_at symbols.old ≡ None)
@@ -59,7 +59,7 @@ fn pair(symbols: &mut Symbols<'_>) -> Option<Pair>
     Some(Pair { input, replacement })
 }
 
-// A reference after a separator.
+/// A reference after a separator.
 fn parameter(symbols: &mut Symbols<'_>) -> Option<Reference>
     ensures finds { MatchOption result (parameter_at symbols.old ≡ None)
         (λ r. parameter_at symbols.old ≡ Some (r, symbols.new)) }

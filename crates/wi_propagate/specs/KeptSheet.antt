@@ -64,8 +64,8 @@ emptied k = record k { values = kept [] k.values.capacity }
 
 -- ---- what an edit makes of it
 
--- An edit of these cells counts nothing and takes no value out. An accepted one is the new generation of each cell of their cone, and
--- of no other; after a refused one each cell has the generation that it had.
+-- An edit of these cells counts nothing and takes no value out. An accepted one is the new generation of each cell of
+-- their cone, and of no other; after a refused one each cell has the generation that it had.
 pub record IsEdit (old new : KeptSheet) (cells : List ℕ) (accepted : Bool) : Type 0 where
   pub same_counts : new.counts ≡ old.counts
   pub same_values : new.values ≡ old.values
@@ -87,13 +87,14 @@ pub record KeepsAll (old new : KeptSheet) : Type 0 where
   pub stays : KeepsOld old new
   pub settled : (c : ℕ) (w : List Replacement) → is_kept new c w ≡ true → is_kept old c w ≡ false → RestsOnKept old.stored.sheet (is_kept new) (c, w)
 
--- Each evaluation that was counted brought one entry at most, and that took one place: a free one, or that of an entry that went. So
--- no more entries came than were counted, and no more went, stale ones too, than came to a full list, short of the greatest count.
+-- Each evaluation that was counted brought one entry at most, and that took one place: a free one, or that of an entry
+-- that went. So no more entries came than were counted, and no more went, stale ones too, than came to a full list,
+-- short of the greatest count.
 abbrev pub KeepsNoMore : KeptSheet → KeptSheet → Type 0
 KeepsNoMore old new = (length new.values.entries + (length (gone old new) + old.counts.evaluations) ≤ length old.values.entries + new.counts.evaluations) ⊎ (2 ^ 64 - 1 ≤ new.counts.evaluations)
 
--- No fewer values are kept than before. Each entry stays where the list isn't full then, and where what was kept and what was
--- evaluated fill it at most, short of the greatest count.
+-- No fewer values are kept than before. Each entry stays where the list isn't full then, and where what was kept and
+-- what was evaluated fill it at most, short of the greatest count.
 pub record KeepsWhileSpace (old new : KeptSheet) : Type 0 where
   pub count : length old.values.entries ≤ length new.values.entries
   pub stays : length new.values.entries < new.values.capacity → KeepsOld old new

@@ -15,12 +15,14 @@ use Rattle.wi_propagate.specs.KeptSheet.{KeptSheet, generation_in}
 abbrev pub SayTheSameFrom : Sheet → ℕ → List Replacement → List Replacement → Type 0
 SayTheSameFrom s c p w = (d : ℕ) → Reaches s c d → last_for p d ≡ last_for w d
 
--- The cell is not circular, and v is its value under each list of replacements that says the same as w of what it reaches.
+-- The cell is not circular, and v is its value under each list of replacements that says the same as w of what it
+-- reaches.
 pub record IsRight (s : Sheet) (c : ℕ) (w : List Replacement) (v : Value) : Type 0 where
   pub open_cell : circular s c ≡ false
   pub holds : (p : List Replacement) → SayTheSameFrom s c p w → cell_value (put_all s p) c ≡ v
 
--- A value is kept for a key of no later edit than the last; where its generation is the cell's present one, the value is right.
+-- A value is kept for a key of no later edit than the last; where its generation is the cell's present one, the value
+-- is right.
 pub record IsKeptFor (s : Sheet) (edits : ℕ) (generation : ℕ → ℕ) (k : Key) (v : Value) : Type 0 where
   pub past : k.generation ≤ edits
   pub right : k.generation ≡ generation k.cell → IsRight s k.cell k.world v
@@ -28,7 +30,8 @@ pub record IsKeptFor (s : Sheet) (edits : ℕ) (generation : ℕ → ℕ) (k : K
 abbrev pub AreRight : Sheet → ℕ → (ℕ → ℕ) → Entries → Type 0
 AreRight s edits generation es = (k : Key) → IfSome (value_for es k) (IsKeptFor s edits generation k)
 
--- generations are of edits that were accepted, there is room for a value, and each value of a present generation is right
+-- generations are of edits that were accepted, there is room for a value, and each value of a present generation is
+-- right
 pub record AreKeptRight (k : KeptSheet) : Type 0 where
   pub space : 1 ≤ k.values.capacity
   pub past : (c : ℕ) → generation_in k.generations c ≤ k.stored.edits

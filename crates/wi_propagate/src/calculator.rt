@@ -80,9 +80,9 @@ pub trait Calculator {
         ensures evaluations_never_fall { evaluated self.old ≤ evaluated self.new }
         ensures restarts_never_fall { restarted self.old ≤ restarted self.new };
 
-    /// What an entry of a data table shows under replacements, which stand in the order of their addresses, one for each:
-    /// the value of the formula cell if each input, the first of a pair, had the value of its replacement cell, the second.
-    /// An entry stands in no cell, so the sheet stays as it is, and no cell reads it.
+    /// What an entry of a data table shows under replacements, which stand in the order of their addresses, one for
+    /// each: the value of the formula cell if each input, the first of a pair, had the value of its replacement cell,
+    /// the second. An entry stands in no cell, so the sheet stays as it is, and no cell reads it.
     fn what_if_value(
         &mut self,
         replacements: &[Replacement],
@@ -104,8 +104,8 @@ pub trait Calculator {
         ensures evaluations_never_fall { evaluated self.old ≤ evaluated self.new }
         ensures restarts_never_fall { restarted self.old ≤ restarted self.new };
 
-    /// Cells among which is each that can show another value, under whatever replacements, where the contents of these cells
-    /// change or the replacements of them. Some may be told twice.
+    /// Cells among which is each that can show another value, under whatever replacements, where the contents of these
+    /// cells change or the replacements of them. Some may be told twice.
     fn mark(&self, cells: &[Address]) -> Result<Vec<Address>, AllocError>
         ensures marked { let sheet = (stored self.now).sheet in
             IfOk result (λ found. (c : ℕ) → is_one_of found.items c ≡ marked sheet cells.now c) }
@@ -113,7 +113,8 @@ pub trait Calculator {
             IfOk result (λ found. (c : ℕ) → is_one_of found.items c ≡ false
             → IsUnmoved sheet cells.now c) };
 
-    /// Of the cells that `mark` finds at least those that aren't watched, where each cell is watched that a watched one marks.
+    /// Of the cells that `mark` finds at least those that aren't watched, where each cell is watched that a watched one
+    /// marks.
     fn mark_beyond<W: Watch>(&self, cells: &[Address], watch: &W) -> Result<Cells, AllocError>
         requires { let sheet = (stored self.now).sheet in
             (a c : ℕ) → W.watched watch.now a ≡ true

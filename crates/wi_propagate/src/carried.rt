@@ -14,7 +14,8 @@ use wi_cache::{GivenUp, Kept};
 use wi_graph::Graph;
 use wi_worlds::Reaches;
 
-/// What a question takes over from the one before, and leaves to the next. It stands in a box, so that each question moves a pointer.
+/// What a question takes over from the one before, and leaves to the next. It stands in a box, so that each question
+/// moves a pointer.
 #[derive(Drop)]
 pub struct Carried {
     pub kept: Kept,
@@ -69,8 +70,8 @@ pub(crate) fn forget_carried(alloc: Global, carried: &mut Option<Box<Carried>>)
     }
 }
 
-/// Takes out what is carried, for a question, where questions have had at most so many replaced cells: without the cones where they
-/// are more than it takes over. Takes no memory.
+/// Takes out what is carried, for a question, where questions have had at most so many replaced cells: without the
+/// cones where they are more than it takes over. Takes no memory.
 #[inline(always)]
 pub(crate) fn take_carried(
     alloc: Global,

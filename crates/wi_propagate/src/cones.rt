@@ -12,12 +12,12 @@ use wi_graph::Graph;
 use wi_values::Address;
 use wi_worlds::{Reaches, World};
 
-// The greatest number of cones, beside as many as the question with the most replaced cells had, that a question takes over
-// from the one before.
+/// The greatest number of cones, beside as many as the question with the most replaced cells had, that a question takes
+/// over from the one before.
 const MOST_CONES: usize = 64;
 
-/// Lets the cones go where they are more than a question takes over, if questions have had at most so many replaced cells. Takes no
-/// memory.
+/// Lets the cones go where they are more than a question takes over, if questions have had at most so many replaced
+/// cells. Takes no memory.
 #[tactic(auto, using(crate::proofs::KeptCones::none_recorded))]
 pub(crate) fn keep_if_few(alloc: Global, widest: usize, cones: &mut Reaches)
     ensures { (s : Sheet) → AreAllCones s cones.old → AreAllCones s cones.new }
@@ -41,8 +41,8 @@ pub(crate) fn keep_over_edit(alloc: Global, graph: &Graph, cones: &mut Reaches)
     }
 }
 
-/// Adds the cones of the replaced cells that have none yet. The work for each is that of its cone; where all have one it is
-/// that of `knows_all`. If memory runs out, those added so far stay.
+/// Adds the cones of the replaced cells that have none yet. The work for each is that of its cone; where all have one
+/// it is that of `knows_all`. If memory runs out, those added so far stay.
 #[inline(always)]
 pub(crate) fn add_cones(graph: &Graph, world: &World, cones: &mut Reaches) -> Result<(), AllocError>
     requires { graph.now.staged ≡ None }
@@ -59,7 +59,7 @@ pub(crate) fn add_cones(graph: &Graph, world: &World, cones: &mut Reaches) -> Re
     Ok(())
 }
 
-// Adds the cone of a cell that has none yet.
+/// Adds the cone of a cell that has none yet.
 fn add_cone(graph: &Graph, at: Address, cones: &mut Reaches) -> Result<(), AllocError>
     requires { graph.now.staged ≡ None }
     ensures cones { (s : Sheet) → AreEdgesOf graph.now.now s → AreAllCones s cones.old

@@ -36,8 +36,8 @@ impl<'a> Watch for Visited<'a> {
     }
 }
 
-/// Stamps each cell that reaches dirty ones with the greatest of their numbers, and none is dirty then. If memory runs out,
-/// they are dirty still.
+/// Stamps each cell that reaches dirty ones with the greatest of their numbers, and none is dirty then. If memory runs
+/// out, they are dirty still.
 pub(crate) fn flush_all(
     alloc: Global,
     graph: &Graph,
@@ -98,8 +98,8 @@ fn by_number(
     Ok(order)
 }
 
-/// Stamps those cells of a cell's cone that weren't visited with its last edit, and they are visited then. If memory runs out,
-/// the stamps are as before.
+/// Stamps those cells of a cell's cone that weren't visited with its last edit, and they are visited then. If memory
+/// runs out, the stamps are as before.
 fn flush_one(
     graph: &Graph,
     valid_since: &mut Numbers,

@@ -1,5 +1,5 @@
-//! Generations of cells: the numbers of the last accepted edits in whose cones they were. An edit stamps the cells that it
-//! names at once, and those that reach them when a question asks.
+//! Generations of cells: the numbers of the last accepted edits in whose cones they were. An edit stamps the cells that
+//! it names at once, and those that reach them when a question asks.
 
 ghost use Rattle.std.specs.Prelude.{◌≡◌, ◌⊎◌, ℕ, [], max, true, None, if◌then◌else◌, OnOk};
 ghost use Rattle.wi_values.specs.Address.{is_one_of};
@@ -73,7 +73,8 @@ impl Generations {
     }
 
     /// Makes an entry for each of these cells, and marks them dirty where some formula reads one of them. The work is
-    /// that of `any_is_read`. If memory runs out, some may be dirty; after an edit that is refused, its cells stay dirty.
+    /// that of `any_is_read`. If memory runs out, some may be dirty; after an edit that is refused, its cells stay
+    /// dirty.
     pub(crate) fn mark_dirty(&mut self, graph: &Graph, cells: &[Address]) -> Result<(), AllocError>
         requires { graph.now.staged ≡ None }
         ensures edited_at { (c : ℕ) → generation_in self.new.edited_at c
@@ -102,8 +103,8 @@ impl Generations {
         raise(&mut self.edited_at, cells, edit);
     }
 
-    /// Stamps the dependents of dirty cells. The work grows with their cone, beside a sort and a search for the readers of each dirty cell. If
-    /// memory runs out, all are dirty still.
+    /// Stamps the dependents of dirty cells. The work grows with their cone, beside a sort and a search for the readers
+    /// of each dirty cell. If memory runs out, all are dirty still.
     pub(crate) fn flush(&mut self, graph: &Graph) -> Result<(), AllocError>
         requires staged { graph.now.staged ≡ None }
         requires dirty { (s : Sheet) → AreEdgesOf graph.now.now s

@@ -21,15 +21,16 @@ use wi_store::Store;
 use wi_values::{Address, Value};
 use wi_worlds::World;
 
-/// What is remembered in one question: the values that are kept for longer, and those that were given up in it, so that none is lost
-/// before it ends.
+/// What is remembered in one question: the values that are kept for longer, and those that were given up in it, so that
+/// none is lost before it ends.
 #[derive(Drop)]
 pub struct Keeping<'a> {
     alloc: Global,
     store: &'a Store,
     graph: &'a Graph,
     generations: &'a Generations,
-    // With the cones of the replaced cells so far, and of some before, and the values that were given up in this question.
+    // With the cones of the replaced cells so far, and of some before, and the values that were given up in this
+    // question.
     carried: Box<Carried>,
     // The replacements of the last key that had some of them, and not all.
     last: World,
@@ -70,8 +71,8 @@ impl<'a> Model for Keeping<'a> {
 }
 
 impl<'a> Keeping<'a> {
-    /// What is carried, with nothing given up yet, for a question that comes with so many replacements. Takes no memory. Values that were given
-    /// up before go.
+    /// What is carried, with nothing given up yet, for a question that comes with so many replacements. Takes no
+    /// memory. Values that were given up before go.
     pub(crate) fn new(
         alloc: Global,
         store: &'a Store,
@@ -106,8 +107,8 @@ impl<'a> Keeping<'a> {
         }
     }
 
-    /// What is carried to the next question: the values that are kept, which are no more than there is room for, the cones that are
-    /// known, and the memory for values that are given up, without them.
+    /// What is carried to the next question: the values that are kept, which are no more than there is room for, the
+    /// cones that are known, and the memory for values that are given up, without them.
     pub(crate) fn into_carried(self) -> Box<Carried>
         ensures kept { result.value.kept ≡ self.entry.values }
         ensures within { length result.value.kept.entries ≤ result.value.kept.capacity }
@@ -123,8 +124,8 @@ impl<'a> Keeping<'a> {
 }
 
 impl<'a> Keeping<'a> {
-    /// Whether a value under replacements has a place in the list: always where one is free or the question came with as many replacements, and
-    /// in a full list where they come back. If memory runs out, all stays as it was.
+    /// Whether a value under replacements has a place in the list: always where one is free or the question came with
+    /// as many replacements, and in a full list where they come back. If memory runs out, all stays as it was.
     #[inline(always)]
     fn has_place(&mut self, world: &World) -> Result<bool, AllocError>
         ensures same { self.new ≡ self.old }
@@ -138,7 +139,8 @@ impl<'a> Keeping<'a> {
         Ok(true)
     }
 
-    /// Puts a value among those that were given up, so that it is found in this question alone. If memory runs out, all stays as it was.
+    /// Puts a value among those that were given up, so that it is found in this question alone. If memory runs out, all
+    /// stays as it was.
     #[inline(always)]
     fn put_aside(&mut self, key: Key, value: Value) -> Result<(), AllocError>
         ensures puts { OnOk result (PutsIn self.old.given_up self.new.given_up key value) }
@@ -156,9 +158,10 @@ impl<'a> Keeping<'a> {
 impl<'a> Memo for Keeping<'a> {
     ghost state = { state_in };
 
-    /// The key for a cell under replacements. The work for a cell that is replaced for the first time is that of its cone;
-    /// else it is a comparison for each replacement, and that of `reaching_by`. Keys in turn with the same part of the
-    /// replacements share it. Values that were given up, and may have this part, are prepared for a look by `GivenUp::catch_up`.
+    /// The key for a cell under replacements. The work for a cell that is replaced for the first time is that of its
+    /// cone; else it is a comparison for each replacement, and that of `reaching_by`. Keys in turn with the same part
+    /// of the replacements share it. Values that were given up, and may have this part, are prepared for a look by
+    /// `GivenUp::catch_up`.
     #[inline(always)]
     fn key(&mut self, at: Address, world: &World) -> Result<Key, AllocError> {
         let carried = &mut *self.carried;
@@ -185,8 +188,8 @@ impl<'a> Memo for Keeping<'a> {
         }
     }
 
-    /// Keeps a value for longer. Where another goes for it, there is room for that one among those given up first, so that none is lost
-    /// if memory runs out.
+    /// Keeps a value for longer. Where another goes for it, there is room for that one among those given up first, so
+    /// that none is lost if memory runs out.
     #[inline(always)]
     fn keep(&mut self, key: Key, value: Value) -> Result<(), AllocError> {
         let carried = &mut *self.carried;
@@ -197,7 +200,8 @@ impl<'a> Memo for Keeping<'a> {
         Ok(())
     }
 
-    /// A value that is used by another one under the same replacements. In a full list it has a place only where `has_place` says so.
+    /// A value that is used by another one under the same replacements. In a full list it has a place only where
+    /// `has_place` says so.
     #[inline(always)]
     fn remember(&mut self, key: Key, value: Value) -> Result<(), AllocError> {
         if self.has_place(&key.world)? {
@@ -207,7 +211,7 @@ impl<'a> Memo for Keeping<'a> {
     }
 }
 
-// Makes room for the value that goes for a new one, if one does. If memory runs out, all is as before.
+/// Makes room for the value that goes for a new one, if one does. If memory runs out, all is as before.
 fn make_space(kept: &Kept, given_up: &mut GivenUp) -> Result<(), AllocError>
     ensures entries { given_up.new.entries ≡ given_up.old.entries }
     ensures space { OnOk result ((k : Keys)
@@ -219,7 +223,7 @@ fn make_space(kept: &Kept, given_up: &mut GivenUp) -> Result<(), AllocError>
     Ok(())
 }
 
-// Puts the value that went, if one did, among those given up. Takes no memory.
+/// Puts the value that went, if one did, among those given up. Takes no memory.
 #[inline(always)]
 fn give_up(gone: Option<(Key, Value)>, given_up: &mut GivenUp)
     requires { IfSome gone (λ _. 1 ≤ given_up.old.space) }

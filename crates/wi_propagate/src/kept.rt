@@ -39,8 +39,8 @@ use wi_parser::{Content, NewContent};
 use wi_store::{Limits, Store, StoreFault};
 use wi_values::{Address, ErrorKind, Rect, Replacement, Value};
 
-/// A calculator that keeps values from one question to the next. It is seen as its sheet, the generations of cells, the values
-/// that are kept, and what was counted.
+/// A calculator that keeps values from one question to the next. It is seen as its sheet, the generations of cells, the
+/// values that are kept, and what was counted.
 #[derive(Drop)]
 pub struct KeptCalculator {
     store: Store,
@@ -94,8 +94,8 @@ impl Model for KeptCalculator {
 }
 
 impl KeptCalculator {
-    /// An empty sheet within limits, with no edits yet, and room for so many kept values. Memory for them is taken as they
-    /// come.
+    /// An empty sheet within limits, with no edits yet, and room for so many kept values. Memory for them is taken as
+    /// they come.
     pub fn new(alloc: Global, limits: Limits, keep: usize) -> Result<KeptCalculator, AllocError>
         requires { 1 ≤ keep }
         ensures stored { IfOk result (λ k.
@@ -119,15 +119,15 @@ impl KeptCalculator {
         })
     }
 
-    /// Each kept value of a cell's present generation is its value under all replacements that say the same as its key of what
-    /// the cell reaches, and its cell is not circular. This is a law: the call does nothing.
+    /// Each kept value of a cell's present generation is its value under all replacements that say the same as its key
+    /// of what the cell reaches, and its cell is not circular. This is a law: the call does nothing.
     pub fn kept_values_are_right(&self)
         ensures { AreKeptRight self.now }
     {
         let _ = &self.store;
     }
 
-    // Does an edit.
+    /// Does an edit.
     fn edit(&mut self, changes: &mut [NewContent]) -> Result<(), StoreFault>
         ensures applied { Applies
             (applied self.old.stored changes.old) result self.old.stored self.new.stored }
@@ -137,7 +137,7 @@ impl KeptCalculator {
         self.edit_cells(changes, cells.as_slice())
     }
 
-    // Does an edit whose cells are listed already, in the order of its changes.
+    /// Does an edit whose cells are listed already, in the order of its changes.
     fn edit_cells(
         &mut self,
         changes: &mut [NewContent],
@@ -165,7 +165,7 @@ impl KeptCalculator {
         }
     }
 
-    // The value of a cell, with what `value` of `Calculator` promises of it in one record.
+    /// The value of a cell, with what `value` of `Calculator` promises of it in one record.
     fn value_of(&mut self, replacements: &[Replacement], at: Address) -> Result<Value, AllocError>
         requires { IsInOrder replacements.now }
         ensures value { IfOk result (λ v. v
@@ -209,7 +209,7 @@ impl KeptCalculator {
         result
     }
 
-    // The value of an entry, with what `what_if_value` of `Calculator` promises of it in one record.
+    /// The value of an entry, with what `what_if_value` of `Calculator` promises of it in one record.
     fn value_of_entry(
         &mut self,
         replacements: &[Replacement],
@@ -289,9 +289,10 @@ impl Calculator for KeptCalculator {
         self.store.cells_lie_in_the_sheet();
     }
 
-    /// One edit. The work grows with what the edited cells read and who reads them; with their cone, what its cells read and who reads
-    /// them, times logarithms, only where several cells read something new, or a cycle may be closed or opened. An accepted edit gives a new generation to each cell of the cone;
-    /// dependents are stamped when a question asks. What is kept stays; so do the cones that are known, if each cell reads what it read before.
+    /// One edit. The work grows with what the edited cells read and who reads them; with their cone, what its cells
+    /// read and who reads them, times logarithms, only where several cells read something new, or a cycle may be closed
+    /// or opened. An accepted edit gives a new generation to each cell of the cone; dependents are stamped when a
+    /// question asks. What is kept stays; so do the cones that are known, if each cell reads what it read before.
     fn apply(&mut self, mut changes: Vec<NewContent>) -> Result<(), StoreFault>
         ensures applied { Applies
             (applied self.old.stored changes.items) result self.old.stored self.new.stored }
@@ -309,14 +310,15 @@ impl Calculator for KeptCalculator {
         self.edit(changes)
     }
 
-    /// What a cell shows under replacements. A formula is evaluated where its value is not kept, and its value is kept then.
-    /// A cell that is circular takes no look at the replacements, and one that is replaced or has no formula a search among
-    /// them, with work that grows with the logarithm of their count. For any other all are compared with those of the last two
-    /// questions, and where they are others they are copied, put in order and hashed. The key of each formula that is asked for
-    /// compares the replaced cells with those that are known, and finds the cone of one that isn't. Those that the formula reaches
-    /// are looked up at once, with work that grows with their count where they are few, and where they are many with that of all.
-    /// They are copied and hashed where they aren't all, and aren't the same as for the last such key. Before a key is made, what
-    /// edits left dirty is flushed, with all that depends on what was edited since the last such question.
+    /// What a cell shows under replacements. A formula is evaluated where its value is not kept, and its value is kept
+    /// then. A cell that is circular takes no look at the replacements, and one that is replaced or has no formula a
+    /// search among them, with work that grows with the logarithm of their count. For any other all are compared with
+    /// those of the last two questions, and where they are others they are copied, put in order and hashed. The key of
+    /// each formula that is asked for compares the replaced cells with those that are known, and finds the cone of one
+    /// that isn't. Those that the formula reaches are looked up at once, with work that grows with their count where
+    /// they are few, and where they are many with that of all. They are copied and hashed where they aren't all, and
+    /// aren't the same as for the last such key. Before a key is made, what edits left dirty is flushed, with all that
+    /// depends on what was edited since the last such question.
     fn value(&mut self, replacements: &[Replacement], at: Address) -> Result<Value, AllocError>
         requires { IsInOrder replacements.now }
         ensures value { IfOk result (λ v. v
@@ -325,8 +327,8 @@ impl Calculator for KeptCalculator {
         ensures same_generations { self.new.generations ≡ self.old.generations }
         ensures same_space { self.new.values.capacity ≡ self.old.values.capacity }
 
-        // No more is evaluated than what the value demands, and where there is room no more than what of that is not kept, also
-        // where memory runs out.
+        // No more is evaluated than what the value demands, and where there is room no more than what of that is not
+        // kept, also where memory runs out.
         ensures evaluations { let cases = demanded self.old.stored.sheet replacements.now at in
             self.new.counts.evaluations ≤ self.old.counts.evaluations + length cases }
         ensures restarts { let sheet = self.old.stored.sheet in
@@ -356,9 +358,9 @@ impl Calculator for KeptCalculator {
         self.value_of(replacements, at)
     }
 
-    /// What an entry of a data table shows under replacements. A formula is evaluated where its value is not kept, and its value
-    /// is kept then. The replacements, and what edits left dirty, cost what they do in `value`; with the inputs put in, they are copied and
-    /// hashed for each entry.
+    /// What an entry of a data table shows under replacements. A formula is evaluated where its value is not kept, and
+    /// its value is kept then. The replacements, and what edits left dirty, cost what they do in `value`; with the
+    /// inputs put in, they are copied and hashed for each entry.
     fn what_if_value(
         &mut self,
         replacements: &[Replacement],
@@ -372,8 +374,8 @@ impl Calculator for KeptCalculator {
         ensures same_generations { self.new.generations ≡ self.old.generations }
         ensures same_space { self.new.values.capacity ≡ self.old.values.capacity }
 
-        // No more is evaluated than what the entry demands, and where there is room no more than what of that is not kept, also
-        // where memory runs out.
+        // No more is evaluated than what the entry demands, and where there is room no more than what of that is not
+        // kept, also where memory runs out.
         ensures evaluations { let cases =
             entry_demanded self.old.stored.sheet replacements.now formula_cell pairs.now in
             self.new.counts.evaluations ≤ self.old.counts.evaluations + length cases }
@@ -418,8 +420,8 @@ impl Calculator for KeptCalculator {
         self.graph.cone(cells)
     }
 
-    /// Exactly those of them that aren't watched, each once, in row-major order. The work grows with their count and that of their
-    /// readers, times logarithms, and not with the watched cells behind them.
+    /// Exactly those of them that aren't watched, each once, in row-major order. The work grows with their count and
+    /// that of their readers, times logarithms, and not with the watched cells behind them.
     fn mark_beyond<W: Watch>(&self, cells: &[Address], watch: &W) -> Result<Cells, AllocError>
         requires { let sheet = self.now.stored.sheet in
             (a c : ℕ) → W.watched watch.now a ≡ true
@@ -438,8 +440,8 @@ impl Calculator for KeptCalculator {
         self.graph.cone_beyond(cells, watch)
     }
 
-    /// All kept values go, and with them the cones that are known, the replacements of the last questions and the arrays for the next. The
-    /// work grows with what goes.
+    /// All kept values go, and with them the cones that are known, the replacements of the last questions and the
+    /// arrays for the next. The work grows with what goes.
     fn forget(&mut self)
         ensures { self.new ≡ emptied self.old }
     {
@@ -460,7 +462,7 @@ impl Calculator for KeptCalculator {
     ghost marks = { cone_marks };
 }
 
-// Whether one of the cells is circular whose values an entry asks for: its formula cell and its replacement cells.
+/// Whether one of the cells is circular whose values an entry asks for: its formula cell and its replacement cells.
 fn entry_is_circular(graph: &Graph, formula_cell: Address, pairs: &[(Address, Address)]) -> bool
     requires { graph.now.staged ≡ None }
     ensures { (s : Sheet) → AreEdgesOf graph.now.now s
@@ -472,7 +474,7 @@ fn entry_is_circular(graph: &Graph, formula_cell: Address, pairs: &[(Address, Ad
     any_circular(graph, pairs)
 }
 
-// Whether one of the replacement cells is circular.
+/// Whether one of the replacement cells is circular.
 fn any_circular(graph: &Graph, pairs: &[(Address, Address)]) -> bool
     requires { graph.now.staged ≡ None }
     ensures { (s : Sheet) → AreEdgesOf graph.now.now s

@@ -8,7 +8,8 @@ use std::mem;
 use wi_values::Replacement;
 use wi_worlds::World;
 
-/// The replacements of the last two questions. They are two since a comparison asks in turn under each of its two lists.
+/// The replacements of the last two questions. They are two since a comparison asks in turn under each of its two
+/// lists.
 #[derive(Drop)]
 pub struct LastWorlds {
     last: World,
@@ -26,9 +27,9 @@ impl LastWorlds {
         }
     }
 
-    /// These replacements, which stand in order. They are compared with those of the last two questions, texts byte by byte, and
-    /// shared with the question that had the same, which takes no memory. Else they are copied, texts too, and hashed, and the
-    /// work for each grows with the logarithm of their count.
+    /// These replacements, which stand in order. They are compared with those of the last two questions, texts byte by
+    /// byte, and shared with the question that had the same, which takes no memory. Else they are copied, texts too,
+    /// and hashed, and the work for each grows with the logarithm of their count.
     pub(crate) fn world_for(
         &self,
         alloc: Global,
@@ -54,7 +55,7 @@ impl LastWorlds {
     }
 }
 
-// Whether a world has these replacements, and no others.
+/// Whether a world has these replacements, and no others.
 fn has_exactly(world: &World, replacements: &[Replacement]) -> bool
     ensures { IsTrue result ↔ (world.now ≡ replacements.now) }
 {

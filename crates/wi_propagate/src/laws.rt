@@ -18,8 +18,8 @@ pub fn circular_from_reads()
     ensures puts { PutsMakeNoCycle }
 {}
 
-/// What a cell shows rests on the cells that it reaches alone, and so on the replacements of these alone. The replacements of
-/// a what-if and those around it are one list.
+/// What a cell shows rests on the cells that it reaches alone, and so on the replacements of these alone. The
+/// replacements of a what-if and those around it are one list.
 pub fn value_is_local()
     ensures local { RestsOnReach }
     ensures others { OthersDoNotCount }
@@ -28,8 +28,8 @@ pub fn value_is_local()
     ensures what_if { WhatIfIsOneList }
 {}
 
-/// Replacements are left out and put in without loss: what a formula rests on is the same under those alone whose cells its cell
-/// reaches, and what is made of replacements in order is in order.
+/// Replacements are left out and put in without loss: what a formula rests on is the same under those alone whose cells
+/// its cell reaches, and what is made of replacements in order is in order.
 pub fn replacements_are_local()
     ensures order { OrderStays }
     ensures rests { RestsStay }

@@ -9,8 +9,8 @@ use std::alloc::{AllocError, Global};
 use wi_arguments::successor;
 use wi_values::{Address, Rect};
 
-/// The occupied cells of a rectangle, in row-major order. One `next_occupied`, a search in the sheet, for each of them, and at
-/// most one more.
+/// The occupied cells of a rectangle, in row-major order. One `next_occupied`, a search in the sheet, for each of them,
+/// and at most one more.
 pub fn occupied_in<C: Calculator>(
     alloc: Global,
     calculator: &C,

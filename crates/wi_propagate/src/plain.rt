@@ -75,9 +75,9 @@ impl Calculator for PlainCalculator {
         shown(self.alloc, &self.store, replacements, at, &mut self.meter)
     }
 
-    /// What an entry of a data table shows under replacements. A formula is evaluated once for each list of replacements of
-    /// cells that it reaches under which its value is asked for, for whichever cell of the entry. What was found is forgotten at
-    /// the end.
+    /// What an entry of a data table shows under replacements. A formula is evaluated once for each list of
+    /// replacements of cells that it reaches under which its value is asked for, for whichever cell of the entry. What
+    /// was found is forgotten at the end.
     fn what_if_value(
         &mut self,
         replacements: &[Replacement],

@@ -136,7 +136,8 @@ impl Plans {
         }
     }
 
-    /// Notes that a cell is asked for. If it is for so many times that a plan may pay: how many formulas were evaluated for it last.
+    /// Notes that a cell is asked for. If it is for so many times that a plan may pay: how many formulas were evaluated
+    /// for it last.
     fn evaluations_at_last(&mut self, root: Address, inputs: u64) -> Option<u64>
         ensures { self.new.plans ≡ self.old.plans }
     {

@@ -16,9 +16,10 @@ struct Sighting {
     question: u64,
 }
 
-/// Which worlds came of late. A table of what-ifs asks for each of its worlds once, so that a value that takes a place in a full list is
-/// never found again; of others, as of several formulas over the same inputs, each comes back. This only chooses which values have a place, so that a world that
-/// is taken for another one, or whose sighting another one took, costs evaluations and makes no value wrong.
+/// Which worlds came of late. A table of what-ifs asks for each of its worlds once, so that a value that takes a place
+/// in a full list is never found again; of others, as of several formulas over the same inputs, each comes back. This
+/// only chooses which values have a place, so that a world that is taken for another one, or whose sighting another one
+/// took, costs evaluations and makes no value wrong.
 #[derive(Drop)]
 pub struct Recurring {
     sightings: Vec<Sighting>,
@@ -57,8 +58,9 @@ impl Recurring {
         self.answer = true;
     }
 
-    /// Whether the values of a world are worth a place: it came in an earlier question, or it is new, and one that was new of late came back. For the
-    /// first world memory for all sightings is taken, four bytes for each value of the list. If it runs out, all stays as it was.
+    /// Whether the values of a world are worth a place: it came in an earlier question, or it is new, and one that was
+    /// new of late came back. For the first world memory for all sightings is taken, four bytes for each value of the
+    /// list. If it runs out, all stays as it was.
     #[inline(always)]
     pub(crate) fn comes_back(&mut self, world: &World) -> Result<bool, AllocError> {
         let digest = world.digest();

@@ -18,9 +18,9 @@ pub enum Standing<'a> {
     Formula(&'a Formula),
 }
 
-/// The value of a cell under replacements where it is replaced or has no formula, and else its formula, so that what stands there is
-/// looked at once. The cell shows that value unless it is circular. The work grows with the logarithms of the counts of replacements
-/// and of occupied cells.
+/// The value of a cell under replacements where it is replaced or has no formula, and else its formula, so that what
+/// stands there is looked at once. The cell shows that value unless it is circular. The work grows with the logarithms
+/// of the counts of replacements and of occupied cells.
 pub(crate) fn standing_value<'a>(
     alloc: Global,
     store: &'a Store,

@@ -26,11 +26,11 @@ use wi_store::Store;
 use wi_values::{Address, ErrorKind, Replacement, Value};
 use wi_worlds::World;
 
-/// What an entry of a data table shows under replacements, which stand in the order of their addresses, one for each: the
-/// value of the formula cell if each input, the first of a pair, had the value of its replacement cell, the second. All
-/// these values are taken before any is replacements, and of two pairs for one input the later counts. A formula is evaluated once for
-/// each list of replacements of cells that its cell reaches under which its value is asked for, for whichever of these cells.
-/// What is found is forgotten at the end.
+/// What an entry of a data table shows under replacements, which stand in the order of their addresses, one for each:
+/// the value of the formula cell if each input, the first of a pair, had the value of its replacement cell, the second.
+/// All these values are taken before any is replacements, and of two pairs for one input the later counts. A formula is
+/// evaluated once for each list of replacements of cells that its cell reaches under which its value is asked for, for
+/// whichever of these cells. What is found is forgotten at the end.
 pub(crate) fn table_entry(
     alloc: Global,
     store: &Store,
@@ -110,8 +110,8 @@ pub(crate) fn open_entry<M: Memo + Drop>(
     Ok(zero_for_empty(value))
 }
 
-/// As `open_entry`, in a question that ends with it: where no place is free for a value, and there is a plan for the formula cell, its
-/// value is found by that.
+/// As `open_entry`, in a question that ends with it: where no place is free for a value, and there is a plan for the
+/// formula cell, its value is found by that.
 pub(crate) fn planned_entry<M: Memo + Drop>(
     question: &mut Question<M>,
     store: &Store,
@@ -148,8 +148,8 @@ pub(crate) fn planned_entry<M: Memo + Drop>(
     }
 }
 
-/// The value of the formula cell with the inputs put in, by a plan. None where a place is free, there is no plan, or a value isn't there
-/// that it is to be given.
+/// The value of the formula cell with the inputs put in, by a plan. None where a place is free, there is no plan, or a
+/// value isn't there that it is to be given.
 fn entry_by_plan<M: Memo + Drop>(
     question: &mut Question<M>,
     store: &Store,
@@ -218,8 +218,8 @@ fn inputs_at_hand<M: Memo + Drop>(
     Ok(Some(world.with(&replaced)?))
 }
 
-/// Replacements with the inputs of an entry put in, each with the value of its replacement cell. All these values are taken
-/// before any is put.
+/// Replacements with the inputs of an entry put in, each with the value of its replacement cell. All these values are
+/// taken before any is put.
 fn with_inputs<M: Memo + Drop>(
     question: &mut Question<M>,
     store: &Store,

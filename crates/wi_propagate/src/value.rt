@@ -13,9 +13,9 @@ use wi_store::Store;
 use wi_values::{Address, ErrorKind, Replacement, Value};
 use wi_worlds::World;
 
-/// What a cell shows under replacements, which stand in the order of their addresses, one for each. A formula is evaluated once
-/// for each list of replacements of cells that its cell reaches under which its value is asked for. What is found is
-/// forgotten at the end.
+/// What a cell shows under replacements, which stand in the order of their addresses, one for each. A formula is
+/// evaluated once for each list of replacements of cells that its cell reaches under which its value is asked for. What
+/// is found is forgotten at the end.
 pub(crate) fn shown(
     alloc: Global,
     store: &Store,

@@ -1,4 +1,5 @@
--- Blocks of rows, and the cut of some rows into blocks. A block has 2^level rows, the first of them a multiple of 2^level.
+-- Blocks of rows, and the cut of some rows into blocks. A block has 2^level rows, the first of them a multiple of
+-- 2^level.
 use Rattle.std.specs.Prelude.{ℕ, zero, suc, ◌+◌, ◌-◌, ◌^◌, List, [], ◌∷◌, ◌++◌, Bool, ◌&&◌, nat_lt, nat_le, if◌then◌else◌}
 use Rattle.wi_values.specs.Address.{row_of}
 use Rattle.wi_ranges.specs.declared.block.Block.{Block}
@@ -15,7 +16,8 @@ lies_within a b x = nat_le a x.first && nat_le (x.first + 2 ^ x.level) (b + 1)
 abbrev pub meets : ℕ → ℕ → Block → Bool
 meets a b x = nat_lt a (x.first + 2 ^ x.level) && nat_le x.first b
 
--- the largest blocks that lie within the rows from a to b, of the block of this level at this row: itself, or those of its halves
+-- the largest blocks that lie within the rows from a to b, of the block of this level at this row: itself, or those of
+-- its halves
 unfoldable pub blocks_within : ℕ → ℕ → ℕ → ℕ → List Block
 blocks_within a b zero f = if lies_within a b (block zero f) then block zero f ∷ [] else []
 blocks_within a b (suc k) f =

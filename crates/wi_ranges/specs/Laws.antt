@@ -29,7 +29,8 @@ IsAligned x = (n : ℕ) × (x.first ≡ n * 2 ^ x.level)
 abbrev pub IsPartOf : Block → Block → Type 0
 IsPartOf x y = (y.first ≤ x.first) × (x.first + 2 ^ x.level ≤ y.first + 2 ^ y.level)
 
--- each block of a pair is one of the sheet's and lies within the rows of the rectangle, as no larger block of the sheet does that it is a part of
+-- each block of a pair is one of the sheet's and lies within the rows of the rectangle, as no larger block of the sheet
+-- does that it is a part of
 abbrev pub BlocksAreLargest : Type 0
 BlocksAreLargest = (p : RangePair) (x : Block) → is_among x (blocks_of p) ≡ true
     → IsAligned x × (lies_within (first_row p) (last_row p) x ≡ true)

@@ -41,7 +41,8 @@ fn count_at(pieces: &Pieces, pair: &RangePair, block: &Block) -> u64
     }
 }
 
-/// Adds a pair by its number among equal ones, and answers whether there was none of this number. On an error all is as before.
+/// Adds a pair by its number among equal ones, and answers whether there was none of this number. On an error all is as
+/// before.
 fn add_numbered(
     pieces: &mut Pieces,
     numbered: &Numbered,

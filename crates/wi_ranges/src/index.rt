@@ -55,9 +55,9 @@ impl RangeIndex {
         }
     }
 
-    /// Adds a pair. On an error all is as before. A pair of one cell that few read takes some searches among the tiles of 16 rows,
-    /// as `CellMap::put_new` does; one that opens a tile is linear in these. For others the work grows with the pair's blocks, twice
-    /// those where there is an equal pair, and the logarithm of the count of pieces.
+    /// Adds a pair. On an error all is as before. A pair of one cell that few read takes some searches among the tiles
+    /// of 16 rows, as `CellMap::put_new` does; one that opens a tile is linear in these. For others the work grows with
+    /// the pair's blocks, twice those where there is an equal pair, and the logarithm of the count of pieces.
     pub fn add(&mut self, area: Rect, reader: Address) -> Result<(), AllocError>
         ensures ok { OnOk result (HasOneMore (pair_for area reader) self.old self.new) }
         ensures err { OnErr result (self.new ≡ self.old) }
@@ -71,9 +71,9 @@ impl RangeIndex {
         Ok(())
     }
 
-    /// Takes away one such pair if there is one. Takes no memory. A pair of one cell that few read takes some searches among the
-    /// tiles of 16 rows; the last reader of a cell goes at the cost of `CellMap::remove`. For others the work grows with the pair's
-    /// blocks and the logarithm of the count of pieces.
+    /// Takes away one such pair if there is one. Takes no memory. A pair of one cell that few read takes some searches
+    /// among the tiles of 16 rows; the last reader of a cell goes at the cost of `CellMap::remove`. For others the work
+    /// grows with the pair's blocks and the logarithm of the count of pieces.
     pub fn remove(&mut self, area: Rect, reader: Address)
         ensures { HasOneLess (pair_for area reader) self.old self.new }
     {
@@ -84,11 +84,11 @@ impl RangeIndex {
         remove_pair(&mut self.pieces, &pair);
     }
 
-    /// The dependents of the cell, which read a rectangle with it, in row-major order, each once. Where each pair is of one cell
-    /// that few read, and for a cell apart from the rectangle around all that is read by rectangles, the work grows with the readers,
-    /// beside one `CellMap::get`. Else it grows with the pairs, equal ones too, at the blocks that
-    /// hold the cell's row, and with the logarithms of their count and of that of all pieces. Such blocks are one for each level
-    /// up to the highest at which a piece stands, at most 21.
+    /// The dependents of the cell, which read a rectangle with it, in row-major order, each once. Where each pair is of
+    /// one cell that few read, and for a cell apart from the rectangle around all that is read by rectangles, the work
+    /// grows with the readers, beside one `CellMap::get`. Else it grows with the pairs, equal ones too, at the blocks
+    /// that hold the cell's row, and with the logarithms of their count and of that of all pieces. Such blocks are one
+    /// for each level up to the highest at which a piece stands, at most 21.
     pub fn readers_of(&self, at: Address) -> Result<Vec<Address>, AllocError>
         ensures order { IfOk result (λ readers. IsStrictlyIncreasing readers.items) }
         ensures readers { IfOk result
@@ -103,8 +103,8 @@ impl RangeIndex {
         readers.into_list()
     }
 
-    /// Whether some cell reads the cell. The search is that of `readers_of`, and ends at the first that does. Apart from the rectangle
-    /// around all that is read by rectangles it is for pairs of one cell alone. It takes no memory.
+    /// Whether some cell reads the cell. The search is that of `readers_of`, and ends at the first that does. Apart
+    /// from the rectangle around all that is read by rectangles it is for pairs of one cell alone. It takes no memory.
     pub fn has_readers(&self, at: Address) -> bool
         ensures { IsTrue result ↔ IsRead self.now at }
     {

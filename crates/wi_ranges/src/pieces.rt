@@ -12,8 +12,8 @@ use std::collections::BTreeSet;
 
 pub(crate) type Pieces = BTreeSet<(Block, Numbered)>;
 
-/// Puts a pair in at each of its blocks within a block. Takes memory only for those where it is new; if that runs out, it may be
-/// in at some of them.
+/// Puts a pair in at each of its blocks within a block. Takes memory only for those where it is new; if that runs out,
+/// it may be in at some of them.
 pub(crate) fn add_pieces(
     pieces: &mut Pieces,
     numbered: &Numbered,

@@ -40,8 +40,8 @@ fn highest_block(pieces: &Pieces, row: u32) -> Block
     block
 }
 
-/// Adds the readers of a cell that stand at a block. If memory runs out, some of them may be added. No end of the block is
-/// sought among the pieces: one way down is all.
+/// Adds the readers of a cell that stand at a block. If memory runs out, some of them may be added. No end of the block
+/// is sought among the pieces: one way down is all.
 fn add_readers(
     pieces: &Pieces,
     at: Address,
@@ -64,8 +64,8 @@ fn add_readers(
     Ok(())
 }
 
-/// Adds the readers of a cell that stand at a block that holds the row, or at one of the halves, quarters and so on that do.
-/// If memory runs out, some of them may be added.
+/// Adds the readers of a cell that stand at a block that holds the row, or at one of the halves, quarters and so on
+/// that do. If memory runs out, some of them may be added.
 fn add_all_readers(
     pieces: &Pieces,
     at: Address,
@@ -85,7 +85,8 @@ fn add_all_readers(
     Ok(())
 }
 
-/// Adds the readers of a cell that stand at the blocks that hold its row. If memory runs out, some of them may be added.
+/// Adds the readers of a cell that stand at the blocks that hold its row. If memory runs out, some of them may be
+/// added.
 pub(crate) fn add_readers_of(
     pieces: &Pieces,
     at: Address,
@@ -120,7 +121,8 @@ fn has_readers_at(pieces: &Pieces, at: Address, block: &Block) -> bool
     false
 }
 
-/// Whether a cell has a reader that stands at a block that holds the row, or at one of the halves, quarters and so on that do.
+/// Whether a cell has a reader that stands at a block that holds the row, or at one of the halves, quarters and so on
+/// that do.
 fn has_readers_within(pieces: &Pieces, at: Address, row: u32, block: &Block) -> bool
     requires { block.now.first + 2 ^ block.now.level ≤ rows }
     ensures { IsTrue result

@@ -13,8 +13,8 @@ use std::collections::BTreeSet;
 use std::marker::Model;
 use wi_values::Address;
 
-/// A set of cells that are put in one by one, mostly in row-major order, and then listed. Those that come in this order stand
-/// in a list, and only the others in a tree.
+/// A set of cells that are put in one by one, mostly in row-major order, and then listed. Those that come in this order
+/// stand in a list, and only the others in a tree.
 #[derive(Drop)]
 pub struct RisingSet {
     // In row-major order.
@@ -46,8 +46,9 @@ impl RisingSet {
         }
     }
 
-    /// Puts a cell in, and answers whether it is new. If memory runs out, all is as before. A cell after the last in row-major
-    /// order costs the same however many there are; with any other the work grows with the logarithm of their count.
+    /// Puts a cell in, and answers whether it is new. If memory runs out, all is as before. A cell after the last in
+    /// row-major order costs the same however many there are; with any other the work grows with the logarithm of their
+    /// count.
     pub fn insert(&mut self, cell: Address) -> Result<bool, AllocError>
         ensures added { IfOk result (λ added. added ≡ not (contains nat_cmp self.old cell)) }
         ensures has { OnOk result
@@ -64,8 +65,8 @@ impl RisingSet {
         Ok(self.others.insert(cell)?)
     }
 
-    /// The cells in row-major order, each once. Where each came in this order, they are a list already; else the work grows
-    /// with their count.
+    /// The cells in row-major order, each once. Where each came in this order, they are a list already; else the work
+    /// grows with their count.
     pub fn into_list(self) -> Result<Vec<Address>, AllocError>
         ensures order { IfOk result (λ list. IsStrictlyIncreasing list.items) }
         ensures cells { IfOk result
@@ -97,8 +98,8 @@ fn is_among(cells: &[Address], cell: Address) -> bool
     cells.binary_search(&cell).is_ok()
 }
 
-/// The cells of a list and of a set in row-major order, each once. Both stand in this order, so that the sort has two runs to
-/// merge.
+/// The cells of a list and of a set in row-major order, each once. Both stand in this order, so that the sort has two
+/// runs to merge.
 fn merged(mut cells: Vec<Address>, others: &BTreeSet<Address>) -> Result<Vec<Address>, AllocError>
     ensures order { IfOk result (λ list. IsStrictlyIncreasing list.items) }
     ensures cells { IfOk result

@@ -56,8 +56,8 @@ impl Singles {
         }
     }
 
-    /// Adds a pair if it is one of one cell and there is room for it, and answers whether it is. If memory runs out, all is as
-    /// before.
+    /// Adds a pair if it is one of one cell and there is room for it, and answers whether it is. If memory runs out,
+    /// all is as before.
     pub(crate) fn add(&mut self, pair: &RangePair) -> Result<bool, AllocError>
         ensures more { IfOk result
             (λ added. IsTrue added → HasPairMore pair.now self.old self.new) }
@@ -122,8 +122,8 @@ impl Singles {
     }
 }
 
-/// Adds a pair if it is one of one cell and there is room for it by the cell, and answers whether it is. If memory runs out,
-/// all is as before.
+/// Adds a pair if it is one of one cell and there is room for it by the cell, and answers whether it is. If memory runs
+/// out, all is as before.
 fn add_reader(alloc: Global, readers: &mut Readers, pair: &RangePair) -> Result<bool, AllocError>
     ensures more { IfOk result (λ added. IsTrue added
         → HasPairMore pair.now (pairs_of readers.old.entries) (pairs_of readers.new.entries)) }

@@ -1,5 +1,5 @@
--- `compare S T RECT`: for each cell of the rectangle, in row-major order, whose values in S and T differ, its address, the text in S,
--- the text in T, and their difference.
+-- `compare S T RECT`: for each cell of the rectangle, in row-major order, whose values in S and T differ, its address,
+-- the text in S, the text in T, and their difference.
 use Rattle.std.specs.Prelude.{ℕ, if◌then◌else◌, List, [], ◌∷◌, Option, Some, None}
 use Rattle.std.specs.List.{flat_map}
 use Rattle.wi_fraction.specs.Number.{Number as Fraction}

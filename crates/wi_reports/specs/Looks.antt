@@ -7,8 +7,8 @@ use Rattle.wi_parser.specs.Sheet.{Sheet}
 use Rattle.wi_sheet.specs.Demand.{Case, demanded, wants}
 use Rattle.wi_sheet.specs.TableEntry.{entry_demanded}
 
--- From one pair of counts to a later one, of evaluations and of those begun again: no more than one evaluation for each case, and no
--- more begun again than their formulas ask for values.
+-- From one pair of counts to a later one, of evaluations and of those begun again: no more than one evaluation for each
+-- case, and no more begun again than their formulas ask for values.
 pub record Costs (s : Sheet) (cases : List Case) (old new : ℕ × ℕ) : Type 0 where
   pub evaluations : new.0 ≤ old.0 + length cases
   pub restarts : new.1 ≤ old.1 + sum_by (wants s) cases

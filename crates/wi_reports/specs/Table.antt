@@ -1,6 +1,6 @@
 -- `table F R XCOLUMN`: for each cell X of the column its shown text, and the entry MULTIPLE.OPERATIONS(F;R;X).
--- `table F R XCOLUMN C YROW`: first an empty field and the shown texts of the row; then for each X its shown text, and for each Y
--- the entry MULTIPLE.OPERATIONS(F;R;X;C;Y).
+-- `table F R XCOLUMN C YROW`: first an empty field and the shown texts of the row; then for each X its shown text, and
+-- for each Y the entry MULTIPLE.OPERATIONS(F;R;X;C;Y).
 use Rattle.std.specs.Prelude.{ℕ, List, [], ◌∷◌, ◌++◌, map, Option, Some, None}
 use Rattle.std.specs.List.{flat_map}
 use Rattle.wi_values.specs.Address.{Area, cells_of}

@@ -16,9 +16,9 @@ use wi_propagate::Calculator;
 use wi_sessions::{Change, Picture};
 use wi_values::{Address, Replacement, Value};
 
-/// Those of some cells whose value under replacements isn't the picture's, each with its value, in the order in which they are
-/// given. The replacements stand in the order of their addresses, one for each. The calculator is asked once for each cell,
-/// and for nothing else.
+/// Those of some cells whose value under replacements isn't the picture's, each with its value, in the order in which
+/// they are given. The replacements stand in the order of their addresses, one for each. The calculator is asked once
+/// for each cell, and for nothing else.
 pub fn find_changes<C: Calculator>(
     alloc: Global,
     calculator: &mut C,
@@ -50,8 +50,9 @@ pub fn find_changes<C: Calculator>(
     Ok(found)
 }
 
-/// Appends the records of changes, in their order: the address, the letter of the value's kind, and the text that it shows. On
-/// an error the bytes are as before. The work grows with the length of the records; without changes no memory is taken.
+/// Appends the records of changes, in their order: the address, the letter of the value's kind, and the text that it
+/// shows. On an error the bytes are as before. The work grows with the length of the records; without changes no memory
+/// is taken.
 pub fn push_changes(alloc: Global, changes: &[Change], out: &mut Vec<u8>) -> Result<(), AllocError>
     ensures ok { OnOk result (out.new.items ≡ out.old.items ++ change_records changes.now) }
     ensures err { OnErr result (out.new.items ≡ out.old.items) }

@@ -29,10 +29,10 @@ pub struct Sides<'a> {
     pub second: &'a [Replacement],
 }
 
-/// Appends a record for each cell of a rectangle whose values under two lists of replacements differ, in row-major order: the
-/// address, the first value, the second, and the second less the first where both are numbers. Each list stands in the order of
-/// its addresses, one for each. On an error the bytes are as before. The calculator is asked twice for each cell; beside that the
-/// work grows with the length of the two texts of each cell.
+/// Appends a record for each cell of a rectangle whose values under two lists of replacements differ, in row-major
+/// order: the address, the first value, the second, and the second less the first where both are numbers. Each list
+/// stands in the order of its addresses, one for each. On an error the bytes are as before. The calculator is asked
+/// twice for each cell; beside that the work grows with the length of the two texts of each cell.
 pub fn push_comparison<C: Calculator>(
     alloc: Global,
     calculator: &mut C,
@@ -138,8 +138,8 @@ fn push_cell<C: Calculator>(
     push_compared(alloc, calculator, &before, sides.second, at, out)
 }
 
-/// Appends the record of a cell with this first value; nothing where its second value is the same. On an error the bytes are
-/// as before.
+/// Appends the record of a cell with this first value; nothing where its second value is the same. On an error the
+/// bytes are as before.
 fn push_compared<C: Calculator>(
     alloc: Global,
     calculator: &mut C,

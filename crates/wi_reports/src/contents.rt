@@ -12,8 +12,8 @@ use wi_parser::Content;
 use wi_propagate::Calculator;
 use wi_values::{Address, Value};
 
-/// Appends the record of a cell: its address and its content, as it would be typed. On an error the bytes are as before.
-/// It looks up one cell (`content`), and beside that the work grows with the length of the record.
+/// Appends the record of a cell: its address and its content, as it would be typed. On an error the bytes are as
+/// before. It looks up one cell (`content`), and beside that the work grows with the length of the record.
 pub fn push_content<C: Calculator>(
     alloc: Global,
     calculator: &C,

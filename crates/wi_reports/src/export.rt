@@ -13,8 +13,9 @@ use std::alloc::{AllocError, Global};
 use wi_propagate::Calculator;
 use wi_values::{Rect, Replacement};
 
-/// Appends the records of `push_rows` behind a line that tells how many lines they are. On an error the bytes are as before.
-/// It costs what `push_rows` does, one question to the calculator for each cell, and is linear in the length of the records beside.
+/// Appends the records of `push_rows` behind a line that tells how many lines they are. On an error the bytes are as
+/// before. It costs what `push_rows` does, one question to the calculator for each cell, and is linear in the length of
+/// the records beside.
 pub fn push_export<C: Calculator>(
     alloc: Global,
     calculator: &mut C,

@@ -14,9 +14,9 @@ use wi_csv::push_record;
 use wi_propagate::Calculator;
 use wi_values::{Rect, Replacement};
 
-/// Appends the texts that a rectangle shows under replacements, which stand in the order of their addresses, one for each:
-/// a record for each row. On an error the bytes are as before. The calculator is asked once for each cell; beside that the work
-/// grows with the length of the records.
+/// Appends the texts that a rectangle shows under replacements, which stand in the order of their addresses, one for
+/// each: a record for each row. On an error the bytes are as before. The calculator is asked once for each cell; beside
+/// that the work grows with the length of the records.
 pub fn push_rows<C: Calculator>(
     alloc: Global,
     calculator: &mut C,

@@ -1,4 +1,5 @@
-//! A data table: the value of a formula cell for each cell of a column, or of a column and a row, in the place of inputs.
+//! A data table: the value of a formula cell for each cell of a column, or of a column and a row, in the place of
+//! inputs.
 
 ghost use Rattle.std.specs.Prelude.{◌≡◌, ◌++◌, ◌∷◌, ◌&&◌, ℕ, true, [], map, nat_le, OnOk, OnErr, string_bytes};
 ghost use Rattle.std.specs.List.{flat_map};
@@ -53,7 +54,8 @@ impl Model for SecondInput {
 }
 
 impl SecondInput {
-    /// The second input of a pair, which has its cell and the cells whose values take its place; none where there is no pair.
+    /// The second input of a pair, which has its cell and the cells whose values take its place; none where there is no
+    /// pair.
     pub fn from_pair(pair: Option<(Address, Rect)>) -> Option<SecondInput>
         ensures { result ≡ pair }
     {
@@ -101,10 +103,10 @@ impl DataTable {
     }
 }
 
-/// Appends the records of a data table under replacements, which stand in the order of their addresses, one for each: one for
-/// each cell of the column, its text and the entries beside it, under a head with the texts of the row where there is one.
-/// On an error the bytes are as before. The calculator is asked once for each cell of the column and of the row, and once for
-/// each entry; beside that the work grows with the length of the records.
+/// Appends the records of a data table under replacements, which stand in the order of their addresses, one for each:
+/// one for each cell of the column, its text and the entries beside it, under a head with the texts of the row where
+/// there is one. On an error the bytes are as before. The calculator is asked once for each cell of the column and of
+/// the row, and once for each entry; beside that the work grows with the length of the records.
 pub fn push_table<C: Calculator>(
     alloc: Global,
     calculator: &mut C,
@@ -162,8 +164,8 @@ fn push_all<C: Calculator>(
     push_rows(alloc, calculator, replacements, table, out)
 }
 
-/// Appends the record above a table of two inputs: an empty field, and the texts of the row. On an error the bytes are as
-/// before.
+/// Appends the record above a table of two inputs: an empty field, and the texts of the row. On an error the bytes are
+/// as before.
 fn push_head<C: Calculator>(
     alloc: Global,
     calculator: &mut C,
@@ -228,7 +230,8 @@ fn push_rows<C: Calculator>(
     Ok(())
 }
 
-/// Appends the record of a cell of the column: its text, and the entries beside it. On an error the bytes are as before.
+/// Appends the record of a cell of the column: its text, and the entries beside it. On an error the bytes are as
+/// before.
 fn push_row<C: Calculator>(
     alloc: Global,
     calculator: &mut C,

@@ -32,8 +32,8 @@ would_loop xs name (Some other) = rests_on xs other name
 abbrev pub based_on : Scenario → Option (List ℕ) → Scenario
 based_on x other = record x { base = other }
 
--- There are no more scenarios than may be. Each has a chain, of no more than may be, so that none is based on itself, at any remove; and
--- none is based on one that isn't there.
+-- There are no more scenarios than may be. Each has a chain, of no more than may be, so that none is based on itself,
+-- at any remove; and none is based on one that isn't there.
 pub record HasChains (xs : List Scenario) : Type 0 where
   pub few : length xs ≤ max_scenarios
   pub chains : (name : Option (List ℕ)) → (ys : List Scenario) × IsChain xs (scenario_of xs name) ys × (length ys ≤ max_scenarios)

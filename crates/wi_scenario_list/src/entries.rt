@@ -10,8 +10,8 @@ use wi_values::{Address, Value};
 /// Values by addresses.
 pub(crate) type ValueMap = BTreeMap<Address, Value>;
 
-/// Puts copies of a map's entries into another, in the place of what it had at their addresses. If memory runs out, those put
-/// in so far stay.
+/// Puts copies of a map's entries into another, in the place of what it had at their addresses. If memory runs out,
+/// those put in so far stay.
 pub(crate) fn merge(alloc: Global, map: &mut ValueMap, others: &ValueMap) -> Result<(), AllocError>
     ensures put { OnOk result (map.new.entries
         ≡ overridden map.old.entries (as_replacements others.now.entries)) }

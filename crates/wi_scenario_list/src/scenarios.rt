@@ -26,8 +26,8 @@ use wi_worlds::listed;
 /// The greatest count of scenarios.
 pub const MAX_SCENARIOS: usize = 64;
 
-/// Scenarios by name, in the order of making, each with replacements of its own and perhaps a base scenario. Whether a base
-/// scenario is there, and whether scenarios are based on one another in a loop, is the caller's concern.
+/// Scenarios by name, in the order of making, each with replacements of its own and perhaps a base scenario. Whether a
+/// base scenario is there, and whether scenarios are based on one another in a loop, is the caller's concern.
 #[derive(Drop)]
 pub struct Scenarios {
     layers: IndexMap<RcStr, Layer>,
@@ -87,17 +87,17 @@ impl Scenarios {
         any_based_on(&self.layers, name)
     }
 
-    /// Whether a scenario is the other, or is based on the other at any remove. The work grows with the count of scenarios that
-    /// it is based on.
+    /// Whether a scenario is the other, or is based on the other at any remove. The work grows with the count of
+    /// scenarios that it is based on.
     pub fn rests_on(&self, name: &str, other: &str) -> bool
         ensures { result ≡ rests_on self.now name.now other.now }
     {
         self.has_below(MAX_SCENARIOS, Some(name), other)
     }
 
-    /// What a scenario puts in, in row-major order, each address once: what its base scenario puts in, overridden by its own
-    /// replacements. Nothing where none is named, or where none has the name. The work for each replacement of the scenario and
-    /// of those that it is based on grows with the logarithm of their count.
+    /// What a scenario puts in, in row-major order, each address once: what its base scenario puts in, overridden by
+    /// its own replacements. Nothing where none is named, or where none has the name. The work for each replacement of
+    /// the scenario and of those that it is based on grows with the logarithm of their count.
     pub fn effective(&self, name: Option<&str>) -> Result<Vec<Replacement>, AllocError>
         ensures value { IfOk result (λ rs.
             rs.items ≡ effective self.now (option_copied name.entry)) }
@@ -107,8 +107,8 @@ impl Scenarios {
         listed(self.alloc, all)
     }
 
-    /// Whether a replacement put into this scenario, which is made if need be, would make a scenario too many, or one replacement of
-    /// its own too many.
+    /// Whether a replacement put into this scenario, which is made if need be, would make a scenario too many, or one
+    /// replacement of its own too many.
     pub fn is_full(&self, name: &str, at: Address) -> bool
         ensures { result ≡ is_full self.now name.now at }
     {
@@ -118,9 +118,10 @@ impl Scenarios {
         }
     }
 
-    /// Puts a replacement into a scenario, in the place of the one that it has for the address; a scenario that isn't there is made.
-    /// `TooMany` where there would be more than `MAX_SCENARIOS`, or more than `MAX_REPLACEMENTS` of the scenario's own, as `is_full`
-    /// tells, and there alone; `Memory` if memory runs out. After each all is as before. The work grows with the count of the scenario's own replacements.
+    /// Puts a replacement into a scenario, in the place of the one that it has for the address; a scenario that isn't
+    /// there is made. `TooMany` where there would be more than `MAX_SCENARIOS`, or more than `MAX_REPLACEMENTS` of the
+    /// scenario's own, as `is_full` tells, and there alone; `Memory` if memory runs out. After each all is as before.
+    /// The work grows with the count of the scenario's own replacements.
     pub fn put(&mut self, name: &str, at: Address, value: Value) -> Result<(), ScenarioFault>
         ensures ok { OnOk result (self.new ≡ with_scenario self.old
             (with_own (scenario_for self.old name.now) (record { at = at; value = value } ∷ []))) }
@@ -134,8 +135,9 @@ impl Scenarios {
         Ok(())
     }
 
-    /// Takes a scenario's own replacement for an address away, if there is one; the scenario stays. Nothing happens where there is no
-    /// such scenario. On an error all is as before. The work grows with the count of the scenario's own replacements.
+    /// Takes a scenario's own replacement for an address away, if there is one; the scenario stays. Nothing happens
+    /// where there is no such scenario. On an error all is as before. The work grows with the count of the scenario's
+    /// own replacements.
     pub fn take_away(&mut self, name: &str, at: Address) -> Result<(), AllocError>
         ensures ok { has_scenario self.old name.now ≡ true → OnOk result (self.new
             ≡ with_scenario self.old (without_own (scenario_for self.old name.now) at)) }
@@ -149,7 +151,8 @@ impl Scenarios {
         self.set(name, layer)
     }
 
-    /// Bases a scenario on another, or on none. Nothing happens where there is no such scenario. On an error all is as before.
+    /// Bases a scenario on another, or on none. Nothing happens where there is no such scenario. On an error all is as
+    /// before.
     pub fn set_base(&mut self, name: &str, other: Option<&str>) -> Result<(), AllocError>
         ensures ok { has_scenario self.old name.now ≡ true
             → OnOk result (self.new ≡ with_scenario self.old

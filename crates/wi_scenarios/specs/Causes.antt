@@ -7,8 +7,8 @@ use Rattle.wi_scenarios.specs.State.{State}
 use Rattle.wi_scenarios.specs.Answer.{Answer}
 
 -- Which causes hold; those that a command doesn't have stay as in `no_cause`. What is wrong with a line itself is found
--- before there is a command: BadLine (E03) before all, and between BadCommand and TooLarge first CutShort (E13) and then
--- OutOfSheet (E04) of an operand. Memory (E01) is no cause of the order.
+-- before there is a command: BadLine (E03) before all, and between BadCommand and TooLarge first CutShort (E13) and
+-- then OutOfSheet (E04) of an operand. Memory (E01) is no cause of the order.
 pub record Causes : Type 0 where
   pub bad_command : Bool
   pub too_large : Bool

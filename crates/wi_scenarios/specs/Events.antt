@@ -1,6 +1,6 @@
--- Commands one after another, each with its answer, and what holds of them: of the calls of a workbook as of the commands of a
--- script. What differs between these are the parameters: which answers a command has, which one asks for the change list, and
--- what an edit names.
+-- Commands one after another, each with its answer, and what holds of them: of the calls of a workbook as of the
+-- commands of a script. What differs between these are the parameters: which answers a command has, which one asks for
+-- the change list, and what an edit names.
 use Rattle.std.specs.Prelude.{◌≡◌, ◌≢◌, ◌↔◌, ◌⊎◌, ◌==◌, ◌&&◌, ℕ, ◌<◌, ◌≤◌, Bool, true, false, not, if◌then◌else◌, List, [], ◌∷◌, ◌++◌, length, drop, map, Option, Some, None, Ok, Err}
 use Rattle.std.specs.List.{list_any}
 use Rattle.wi_values.specs.Address.{address_text, Area, is_within_one}
@@ -49,7 +49,8 @@ module _ {C : Type 0} (IsStep : State → C → Answer → Type 0) where
   abbrev pub MayHappen : State → Event C → Type 0
   MayHappen s e = IsStep s e.command e.answer ⊎ (e.answer ≡ Err Memory)
 
-  -- The events may happen one after another from this state. Whose they are is up to them: `as` makes another session current.
+  -- The events may happen one after another from this state. Whose they are is up to them: `as` makes another session
+  -- current.
   abbrev pub MayFollow : State → List (Event C) → Type 0
   MayFollow s [] = Unit {0}
   MayFollow s (e ∷ es) = MayHappen s e × MayFollow (left_by s e.answer) es
@@ -89,16 +90,17 @@ module _ {C : Type 0} (is_changes : C → Bool) where
   last_shown i a v s [] = v
   last_shown i a v s (e ∷ es) = last_shown i a (if is_told i s e then shown_to s (session_at s i) a else v) (left_by s e.answer) es
 
-  -- Put into the picture that a session has at the start, the lists that it is told make the picture that it has at the end, and
-  -- that has in each cell of the sheet the value that the session was shown at the last of them. A session that is made on the
-  -- way begins with an empty picture.
+  -- Put into the picture that a session has at the start, the lists that it is told make the picture that it has at the
+  -- end, and that has in each cell of the sheet the value that the session was shown at the last of them. A session
+  -- that is made on the way begins with an empty picture.
   pub record ListsAddUp (s : State) (es : List (Event C)) (i : ℕ) : Type 0 where
     pub picture : (session_at (state_after s es) i).picture ≡ with_lists (session_at s i).picture (lists_told i s es)
     pub shown : (a : ℕ) → a < sheet_size
         → value_in (with_lists (session_at s i).picture (lists_told i s es)) a ≡ last_shown i a (value_in (session_at s i).picture a) s es
 
 module _ {C : Type 0} (IsStep : State → C → Answer → Type 0) (changes : C) where
-  -- The records that an accepted `changes` writes are read as its list's addresses, kinds and texts, and no other list has the same.
+  -- The records that an accepted `changes` writes are read as its list's addresses, kinds and texts, and no other list
+  -- has the same.
   pub record RecordsTellList (s : State) (records : List ℕ) : Type 0 where
     pub read : recs records ≡ map change_fields (change_list s)
     pub one : (t u : State) → IsStep t changes (Ok (u, records)) → change_list t ≡ change_list s
@@ -131,7 +133,8 @@ module _ {C : Type 0} (is_changes : C → Bool) (named_by : C → Option (List A
   edits_since i earlier s [] = earlier
   edits_since i earlier s (e ∷ es) = edits_since i (if is_told is_changes i s e then [] else earlier ++ logged_by named_by s e) (left_by s e.answer) es
 
-  -- The log has grown by the accepted edits, and what a session hasn't seen of it are those since it was last told a list.
+  -- The log has grown by the accepted edits, and what a session hasn't seen of it are those since it was last told a
+  -- list.
   pub record LogGrows (s : State) (es : List (Event C)) (i : ℕ) : Type 0 where
     pub log : (state_after s es).log ≡ s.log ++ edits_in named_by s es
     pub behind : unseen (state_after s es) i ≡ edits_since i (unseen s i) s es
@@ -161,9 +164,9 @@ is_refused_before (Ok done) = false
 is_refused_before (Err e) = counts_before e
 
 module _ {C : Type 0} (IsStep : State → C → Answer → Type 0) (is_changes : C → Bool) (named_by : C → Option (List Area)) (is_forced : C → Bool) where
-  -- What a command that names these rectangles is answered after these events, if it isn't forced, and isn't refused for a cause
-  -- that counts before or as out of memory: it is refused for a stale cell exactly where this is the first of the cells it names
-  -- that other sessions' edits name, of those accepted since its session was last told a list.
+  -- What a command that names these rectangles is answered after these events, if it isn't forced, and isn't refused
+  -- for a cause that counts before or as out of memory: it is refused for a stale cell exactly where this is the first
+  -- of the cells it names that other sessions' edits name, of those accepted since its session was last told a list.
   abbrev pub StaleIsNewer : State → List (Event C) → Event C → List Area → Type 0
   StaleIsNewer s es e named =
       let t = state_after s es in

@@ -1,4 +1,5 @@
--- What a call leaves, and what the laws of `Events` are told of calls: which one asks for the change list, and what edits name.
+-- What a call leaves, and what the laws of `Events` are told of calls: which one asks for the change list, and what
+-- edits name.
 use Rattle.std.specs.Prelude.{◌≡◌, ◌≢◌, ℕ, Bool, true, false, List, [], ◌∷◌, ◌++◌, length, Option, Some, None}
 use Rattle.wi_values.specs.Address.{Area}
 use Rattle.wi_parser.specs.Reads.{cell_area}

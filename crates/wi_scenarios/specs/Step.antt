@@ -14,8 +14,9 @@ use Rattle.wi_scenarios.specs.Fill.{fill_step}
 use Rattle.wi_scenarios.specs.Csv.{IsCsvStep}
 use Rattle.wi_scenarios.specs.Table.{table_step}
 
--- A call, or a line that is refused whatever the state is: `Refused` before anything grows, `RefusedData` once its data lines
--- are there. Edits say whether they are forced; scenarios and sessions are given by name, and no name is the sheet as it stands.
+-- A call, or a line that is refused whatever the state is: `Refused` before anything grows, `RefusedData` once its data
+-- lines are there. Edits say whether they are forced; scenarios and sessions are given by name, and no name is the
+-- sheet as it stands.
 pub data Call : Type 0 where
   Set : Bool → ℕ → List ℕ → Call
   Clear : Bool → Area → Call
@@ -55,8 +56,8 @@ IsCallStep s (Formula at) a = IsStep s (command.Formula (cell at)) a
 IsCallStep s (Refused e) a = Err e ≡ a
 IsCallStep s (RefusedData e) a = Err e ≡ a
 
--- The call may be refused as out of memory: something may grow before its answer. Nothing does for a line that is refused,
--- for `drop`, and for `as` of a session that is there; for data lines something always may.
+-- The call may be refused as out of memory: something may grow before its answer. Nothing does for a line that is
+-- refused, for `drop`, and for `as` of a session that is there; for data lines something always may.
 abbrev pub CallMayLackMemory : State → Call → Type 0
 CallMayLackMemory s (Refused e) = ⊥
 CallMayLackMemory s (RefusedData e) = Unit {0}

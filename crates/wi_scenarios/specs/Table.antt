@@ -1,4 +1,5 @@
--- The command `table`: the value of a formula cell for each cell of a column, or of a column and a row, in the place of inputs.
+-- The command `table`: the value of a formula cell for each cell of a column, or of a column and a row, in the place of
+-- inputs.
 use Rattle.std.specs.Prelude.{ℕ, nat_lt, not, ◌||◌, Option}
 use Rattle.wi_values.specs.Address.{Area, is_column}
 use Rattle.wi_reports.specs.Table.{table_of}

@@ -16,8 +16,8 @@ use std::alloc::{AllocError, Global};
 use wi_propagate::Calculator;
 use wi_scenario_list::Scenarios;
 
-/// Bases a scenario on another, or on none. The work grows with the count of scenarios, for each session with all that its scenario
-/// puts in, before and after, and with what depends on the cells whose replacement is another.
+/// Bases a scenario on another, or on none. The work grows with the count of scenarios, for each session with all that
+/// its scenario puts in, before and after, and with what depends on the cells whose replacement is another.
 pub(crate) fn base<C: Calculator>(
     alloc: Global,
     calculator: &C,

@@ -21,10 +21,10 @@ use wi_propagate::Calculator;
 use wi_reports::{find_changes, push_changes};
 use wi_sessions::Change;
 
-/// Appends a record for each cell that has changed since the current session was last shown what has. Only its pending cells
-/// are looked at. The calculator is asked once for each of them; beside that the work grows with what the session's scenario puts in,
-/// with the length of the records, and with the changes, some look-ups in the picture for each. Where no cell is pending, none of
-/// this is done, and no memory is taken.
+/// Appends a record for each cell that has changed since the current session was last shown what has. Only its pending
+/// cells are looked at. The calculator is asked once for each of them; beside that the work grows with what the
+/// session's scenario puts in, with the length of the records, and with the changes, some look-ups in the picture for
+/// each. Where no cell is pending, none of this is done, and no memory is taken.
 pub(crate) fn changes<C: Calculator>(
     alloc: Global,
     calculator: &mut C,
@@ -59,8 +59,8 @@ pub(crate) fn changes<C: Calculator>(
     Ok(())
 }
 
-/// What has changed since the current session was last shown it. The calculator is asked for its pending cells alone; where there
-/// are none, nothing is listed.
+/// What has changed since the current session was last shown it. The calculator is asked for its pending cells alone;
+/// where there are none, nothing is listed.
 fn find<C: Calculator>(
     alloc: Global,
     calculator: &mut C,

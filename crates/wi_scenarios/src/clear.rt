@@ -15,8 +15,9 @@ use wi_parser::NewContent;
 use wi_propagate::{Calculator, occupied_in};
 use wi_values::{Address, Rect};
 
-/// Empties the cells of a rectangle. The work grows with its occupied cells: for each it is that of `apply_edit`, and of a search,
-/// in which rows with a cell beside the rectangle count, but no more of them than the rectangle has columns.
+/// Empties the cells of a rectangle. The work grows with its occupied cells: for each it is that of `apply_edit`, and
+/// of a search, in which rows with a cell beside the rectangle count, but no more of them than the rectangle has
+/// columns.
 pub(crate) fn clear<C: Calculator>(
     alloc: Global,
     calculator: &mut C,

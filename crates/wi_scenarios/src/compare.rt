@@ -30,8 +30,9 @@ pub(crate) struct Compared<'a> {
     pub second: Option<&'a str>,
 }
 
-/// Appends a record for each cell of a rectangle whose values under two scenarios differ. The calculator is asked twice for each cell;
-/// beside that the work grows with what both scenarios put in and with the length of the two texts of each cell.
+/// Appends a record for each cell of a rectangle whose values under two scenarios differ. The calculator is asked twice
+/// for each cell; beside that the work grows with what both scenarios put in and with the length of the two texts of
+/// each cell.
 pub(crate) fn compare<C: Calculator>(
     alloc: Global,
     calculator: &mut C,
@@ -64,7 +65,8 @@ pub(crate) fn compare<C: Calculator>(
     Ok(())
 }
 
-/// Appends the records for two scenarios that are there, or the sheet as it stands. On an error the bytes are as before.
+/// Appends the records for two scenarios that are there, or the sheet as it stands. On an error the bytes are as
+/// before.
 fn push_differences<C: Calculator>(
     alloc: Global,
     calculator: &mut C,

@@ -15,7 +15,8 @@ use wi_import::import as read_import;
 use wi_propagate::Calculator;
 use wi_values::Address;
 
-/// Puts the fields of a CSV text into cells, from a cell on. The work grows with the text, and is that of `apply_edit` for its fields.
+/// Puts the fields of a CSV text into cells, from a cell on. The work grows with the text, and is that of `apply_edit`
+/// for its fields.
 pub(crate) fn import<C: Calculator>(
     alloc: Global,
     calculator: &mut C,

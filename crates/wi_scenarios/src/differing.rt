@@ -8,8 +8,8 @@ use std::alloc::{AllocError, Global};
 use wi_values::{Address, Replacement};
 use wi_worlds::value_at;
 
-/// The cells that two lists replace by different values, or that one of them replaces alone; some are told twice. The work for
-/// each replacement grows with the logarithm of the count of all.
+/// The cells that two lists replace by different values, or that one of them replaces alone; some are told twice. The
+/// work for each replacement grows with the logarithm of the count of all.
 #[tactic(auto, using(crate::proofs::DifferingLemmas::both_found))]
 pub(crate) fn differing_cells(
     alloc: Global,

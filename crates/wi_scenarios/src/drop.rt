@@ -15,8 +15,8 @@ use crate::refusal::Refusal;
 use wi_propagate::Calculator;
 use wi_sessions::Sessions;
 
-/// Removes a scenario that no session uses, and on which none is based. Takes no memory. The work grows with the counts of
-/// scenarios and sessions.
+/// Removes a scenario that no session uses, and on which none is based. Takes no memory. The work grows with the counts
+/// of scenarios and sessions.
 pub(crate) fn drop<C: Calculator>(
     calculator: &C,
     desk: &mut Desk,

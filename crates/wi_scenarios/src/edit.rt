@@ -21,13 +21,14 @@ use wi_propagate::{Calculator, Cells, Watch, edited_cells};
 use wi_sessions::Sessions;
 use wi_values::{Address, Rect};
 
-/// Edits the sheet, where each of some cells gets a content or none, and notes in the log which rectangles the edit names; the cells
-/// that may show something else then are pending for each session. The contents are taken out of their list. An edit that isn't forced
-/// is refused as `Stale` where it names a cell that another session has edited since the current one was last shown what has changed.
-/// The work grows with the edits that the log hasn't noted, up to the last one of another session, with those of others that the
-/// current session hasn't seen yet, and with the rectangles that these name; with the edited cells, what they read and who reads them;
-/// with those that depend on the edited ones and aren't pending for each session; where several cells read something new, or a cycle
-/// may be closed or opened, with all that depend on them, what these read and who reads them.
+/// Edits the sheet, where each of some cells gets a content or none, and notes in the log which rectangles the edit
+/// names; the cells that may show something else then are pending for each session. The contents are taken out of their
+/// list. An edit that isn't forced is refused as `Stale` where it names a cell that another session has edited since
+/// the current one was last shown what has changed. The work grows with the edits that the log hasn't noted, up to the
+/// last one of another session, with those of others that the current session hasn't seen yet, and with the rectangles
+/// that these name; with the edited cells, what they read and who reads them; with those that depend on the edited ones
+/// and aren't pending for each session; where several cells read something new, or a cycle may be closed or opened,
+/// with all that depend on them, what these read and who reads them.
 pub(crate) fn apply_edit<C: Calculator>(
     alloc: Global,
     calculator: &mut C,
@@ -131,8 +132,8 @@ fn first_stale(desk: &Desk, named: &[Rect], force: bool) -> Option<Address>
     desk.log.first_stale(desk.session(), seen, named)
 }
 
-/// The cells that may show something else once some cells get these contents, of those that are pending for each session perhaps not
-/// all; for no cell there is none.
+/// The cells that may show something else once some cells get these contents, of those that are pending for each
+/// session perhaps not all; for no cell there is none.
 fn marked_by<C: Calculator>(
     alloc: Global,
     calculator: &C,
@@ -192,7 +193,8 @@ fn edit_with_rooms<C: Calculator>(
     commit(calculator, &mut desk.log, session, named, contents)
 }
 
-/// Makes room for cells in the list of each session for which they aren't pending. On an error a part of the rooms may be there.
+/// Makes room for cells in the list of each session for which they aren't pending. On an error a part of the rooms may
+/// be there.
 fn make_rooms(sessions: &mut Sessions, cells: &[Address]) -> Result<(), AllocError>
     requires { (i : ℕ) → vacant_of sessions.old i ≡ [] }
     ensures sessions { sessions.new.sessions ≡ sessions.old.sessions }

@@ -18,8 +18,9 @@ use wi_propagate::Calculator;
 use wi_reports::push_export;
 use wi_values::Rect;
 
-/// Appends the records of a rectangle behind a line that tells how many lines they are. The calculator is asked once for each cell;
-/// beside that the work grows with what the session's scenario puts in and with the length of the records.
+/// Appends the records of a rectangle behind a line that tells how many lines they are. The calculator is asked once
+/// for each cell; beside that the work grows with what the session's scenario puts in and with the length of the
+/// records.
 pub(crate) fn export<C: Calculator>(
     alloc: Global,
     calculator: &mut C,

@@ -18,8 +18,8 @@ use wi_parser::{Content, NewContent, ShiftFault};
 use wi_propagate::Calculator;
 use wi_values::{Address, Rect};
 
-/// Copies a cell's content to each cell of a rectangle, all from the content that stands there before. The work grows with
-/// the cells of the rectangle and with the content, and is that of `apply_edit` for them.
+/// Copies a cell's content to each cell of a rectangle, all from the content that stands there before. The work grows
+/// with the cells of the rectangle and with the content, and is that of `apply_edit` for them.
 pub(crate) fn fill<C: Calculator>(
     alloc: Global,
     calculator: &mut C,

@@ -17,16 +17,16 @@ pub fn one_answer()
         → IsCallStep s c b → a ≡ b }
 {}
 
-/// In a workbook that was just made, and so after each run from there, the current session is one of the sessions, and none
-/// has seen more of the log than there is.
+/// In a workbook that was just made, and so after each run from there, the current session is one of the sessions, and
+/// none has seen more of the log than there is.
 #[tactic(auto, using(crate::proofs::RunLemmas::new_is_coherent, crate::proofs::RunLemmas::stays_coherent))]
 pub fn runs_stay_coherent()
     ensures new { (stored : Stored) → IsCoherent (state_over stored) }
     ensures stays { (s : State) (es : List (Event Call)) → StaysCoherent IsCallStep s es }
 {}
 
-/// In every interleaving, the change lists that a session is told, put into the picture that it had before, make the one that
-/// it has at the end, which has what it was shown at the last of them.
+/// In every interleaving, the change lists that a session is told, put into the picture that it had before, make the
+/// one that it has at the end, which has what it was shown at the last of them.
 pub fn change_lists_add_up()
     ensures { (s : State) (es : List (Event Call)) (i : ℕ) → IsCoherent s
         → MayFollow IsCallStep s es → ListsAddUp is_changes_call s es i }
@@ -47,9 +47,10 @@ pub fn sessions_keep_apart()
         → MayHappen IsCallStep s e → KeepsApart s e i }
 {}
 
-/// The log grows by the accepted edits, and a session's place in it is that of the last change list that it was told. An edit
-/// that isn't forced, and isn't refused for a cause that counts before or as out of memory, is refused for a stale cell exactly
-/// where others' edits since then name one of its cells, and for the first such. One that is forced never is.
+/// The log grows by the accepted edits, and a session's place in it is that of the last change list that it was told.
+/// An edit that isn't forced, and isn't refused for a cause that counts before or as out of memory, is refused for a
+/// stale cell exactly where others' edits since then name one of its cells, and for the first such. One that is forced
+/// never is.
 #[tactic(auto, using(crate::proofs::StaleLemmas::forced_is_not_stale))]
 pub fn stale_is_newer()
     ensures log { (s : State) (es : List (Event Call)) (i : ℕ) → IsCoherent s

@@ -10,9 +10,9 @@ use wi_store::StoreFault;
 use wi_values::{Address, AddressFault, FieldFault};
 
 /// Why a command is refused. All is then as before. The first cause of this order that holds is answered: `BadLine`,
-/// `BadCommand`, `CutShort`, `OutOfSheet` of an operand, `TooLarge`, `NoScenario`, `InUse`, `TooMany`, `BadField`, `TooLong`,
-/// `OutOfSheet` of a formula or a field, `NumberRange`, `TooDeep`, `Syntax`, `LeavesSheet`, `Stale`, `Loop`, `Full`, `EditLimit`.
-/// `Memory` may stand in place of most answers, but of none that is found before anything grows.
+/// `BadCommand`, `CutShort`, `OutOfSheet` of an operand, `TooLarge`, `NoScenario`, `InUse`, `TooMany`, `BadField`,
+/// `TooLong`, `OutOfSheet` of a formula or a field, `NumberRange`, `TooDeep`, `Syntax`, `LeavesSheet`, `Stale`, `Loop`,
+/// `Full`, `EditLimit`. `Memory` may stand in place of most answers, but of none that is found before anything grows.
 #[derive(Clone, Copy, PartialEq, Debug, Error)]
 pub enum Refusal {
     /// E01.

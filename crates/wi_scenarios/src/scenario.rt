@@ -16,9 +16,9 @@ use wi_propagate::Calculator;
 use wi_scenario_list::{ScenarioFault, Scenarios};
 use wi_values::{Address, Value, imported_value};
 
-/// Puts a replacement into a scenario, which is made if need be. The work grows with the count of scenarios, with the scenario's own
-/// replacements, for each session with all that its scenario puts in, before and after, and, where it puts in something else for the
-/// cell then, with what depends on the cell.
+/// Puts a replacement into a scenario, which is made if need be. The work grows with the count of scenarios, with the
+/// scenario's own replacements, for each session with all that its scenario puts in, before and after, and, where it
+/// puts in something else for the cell then, with what depends on the cell.
 pub(crate) fn put<C: Calculator>(
     alloc: Global,
     calculator: &C,

@@ -21,8 +21,8 @@ use wi_scenario_list::Scenarios;
 use wi_sessions::{MAX_SESSIONS, Sessions};
 use wi_values::{Address, COLUMNS, ROWS, Rect};
 
-/// Makes a session current, a new one if need be. Takes no memory where the session is there. For a new one the work grows with the
-/// occupied cells.
+/// Makes a session current, a new one if need be. Takes no memory where the session is there. For a new one the work
+/// grows with the occupied cells.
 pub(crate) fn session<C: Calculator>(
     alloc: Global,
     calculator: &C,
@@ -94,8 +94,8 @@ fn occupied<C: Calculator>(alloc: Global, calculator: &C) -> Result<Vec<Address>
     occupied_in(alloc, calculator, Rect::new(first, last))
 }
 
-/// What stands beside a sheet in a new workbook: the one session `main`, for which the occupied cells are pending. The work grows
-/// with them.
+/// What stands beside a sheet in a new workbook: the one session `main`, for which the occupied cells are pending. The
+/// work grows with them.
 pub(crate) fn new_desk<C: Calculator>(alloc: Global, calculator: &C) -> Result<Desk, AllocError>
     ensures state { let stored = C.stored calculator.now in
         IfOk result (λ desk. state_of stored desk ≡ state_over stored) }

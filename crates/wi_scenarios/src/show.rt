@@ -18,8 +18,8 @@ use wi_propagate::Calculator;
 use wi_reports::push_rows;
 use wi_values::Rect;
 
-/// Appends the records of a rectangle. The calculator is asked once for each cell; beside that the work grows with what the session's
-/// scenario puts in and with the length of the records.
+/// Appends the records of a rectangle. The calculator is asked once for each cell; beside that the work grows with what
+/// the session's scenario puts in and with the length of the records.
 pub(crate) fn show<C: Calculator>(
     alloc: Global,
     calculator: &mut C,

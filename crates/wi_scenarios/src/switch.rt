@@ -14,9 +14,9 @@ use wi_scenario_list::Scenarios;
 use wi_sessions::Sessions;
 use wi_values::Replacement;
 
-/// Makes room among a session's pending cells for those that may show something else where the replacements are others. On an error
-/// some vacant rooms may be left. The work for each replacement grows with the logarithm of the count of all; beside that it grows with
-/// what depends on the cells whose replacement is another.
+/// Makes room among a session's pending cells for those that may show something else where the replacements are others.
+/// On an error some vacant rooms may be left. The work for each replacement grows with the logarithm of the count of
+/// all; beside that it grows with what depends on the cells whose replacement is another.
 pub(crate) fn make_room_between<C: Calculator>(
     alloc: Global,
     calculator: &C,
@@ -89,9 +89,9 @@ fn make_room_for_each<C: Calculator>(
     Ok(())
 }
 
-/// Other scenarios take the place of all; the cells that may show something else then are pending for each session. On an error
-/// all is as before. The work for each session is that of `Scenarios::effective`, once for what its scenario puts in now and once for
-/// what it will, also where nothing of it changes, and that of `make_room_between`.
+/// Other scenarios take the place of all; the cells that may show something else then are pending for each session. On
+/// an error all is as before. The work for each session is that of `Scenarios::effective`, once for what its scenario
+/// puts in now and once for what it will, also where nothing of it changes, and that of `make_room_between`.
 pub(crate) fn switch_to<C: Calculator>(
     alloc: Global,
     calculator: &C,

@@ -1,4 +1,5 @@
-//! The command `table`: the value of a formula cell for each cell of a column, or of a column and a row, in the place of inputs.
+//! The command `table`: the value of a formula cell for each cell of a column, or of a column and a row, in the place
+//! of inputs.
 
 ghost use Rattle.std.specs.Prelude.{◌≡◌, ◌++◌, ℕ, List};
 ghost use Rattle.wi_reports.specs.Looks.{Costs};
@@ -15,8 +16,9 @@ use std::alloc::Global;
 use wi_propagate::Calculator;
 use wi_reports::{DataTable, push_table};
 
-/// Appends the records of a table. The calculator is asked once for each cell of the column and of the row, and once for each entry;
-/// beside that the work grows with what the session's scenario puts in and with the length of the records.
+/// Appends the records of a table. The calculator is asked once for each cell of the column and of the row, and once
+/// for each entry; beside that the work grows with what the session's scenario puts in and with the length of the
+/// records.
 pub(crate) fn table<C: Calculator>(
     alloc: Global,
     calculator: &mut C,

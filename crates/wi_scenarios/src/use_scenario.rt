@@ -19,8 +19,8 @@ use crate::views::is_missing;
 use std::alloc::{AllocError, Global};
 use wi_propagate::Calculator;
 
-/// The current session uses a scenario, or the sheet as it stands. The work grows with all that the old and the new one put in, and
-/// with what depends on the cells whose replacement is another.
+/// The current session uses a scenario, or the sheet as it stands. The work grows with all that the old and the new one
+/// put in, and with what depends on the cells whose replacement is another.
 pub(crate) fn use_scenario<C: Calculator>(
     alloc: Global,
     calculator: &C,

@@ -12,8 +12,8 @@ use std::alloc::AllocError;
 use wi_scenario_list::Scenarios;
 use wi_values::Replacement;
 
-/// The replacements that the scenario of a session puts in. The work for each replacement of that scenario and of those that it is
-/// based on grows with the logarithm of their count.
+/// The replacements that the scenario of a session puts in. The work for each replacement of that scenario and of those
+/// that it is based on grows with the logarithm of their count.
 pub(crate) fn replacements_for(desk: &Desk, i: usize) -> Result<Vec<Replacement>, AllocError>
     requires { i < length desk.now.sessions.sessions }
     ensures value { IfOk result (λ put.

@@ -44,8 +44,8 @@ use wi_propagate::Calculator;
 use wi_reports::{DataTable, SecondInput};
 use wi_values::{Address, Name, Rect};
 
-/// A sheet, and what is kept beside it: scenarios, sessions and the log of edits. It is seen as the definition's state, the cells
-/// that are pending for each session, and the counts that the calculator tells.
+/// A sheet, and what is kept beside it: scenarios, sessions and the log of edits. It is seen as the definition's state,
+/// the cells that are pending for each session, and the counts that the calculator tells.
 #[derive(Drop)]
 pub struct Workbook<C: Calculator> {
     calculator: C,
@@ -84,8 +84,8 @@ fn as_text<'a>(name: Option<Name<'a>>) -> Option<&'a str>
 }
 
 impl<C: Calculator> Workbook<C> {
-    /// A workbook over a calculator, whose sheet it takes over, with the one session `main`, for which the occupied cells are
-    /// pending. The calculator is dropped if memory runs out. The work grows with the occupied cells.
+    /// A workbook over a calculator, whose sheet it takes over, with the one session `main`, for which the occupied
+    /// cells are pending. The calculator is dropped if memory runs out. The work grows with the occupied cells.
     pub fn new(alloc: Global, calculator: C) -> Result<Workbook<C>, AllocError>
     where
         C: Drop,
@@ -112,11 +112,12 @@ impl<C: Calculator> Workbook<C> {
         &self.calculator
     }
 
-    /// Puts a content into a cell. An empty one is refused as `BadCommand`. An edit of a cell that another session has edited since
-    /// the current one was last shown what has changed is refused as `Stale`, but not where it is forced. The work of this and
-    /// the other edits grows with the cells that depend on the edited ones and aren't pending for each session, for each session, and
-    /// with those that read the edited ones; where several cells read something new, or a cycle may be closed or opened, with all that
-    /// depend on them; the memory for a session with those that aren't pending for it.
+    /// Puts a content into a cell. An empty one is refused as `BadCommand`. An edit of a cell that another session has
+    /// edited since the current one was last shown what has changed is refused as `Stale`, but not where it is forced.
+    /// The work of this and the other edits grows with the cells that depend on the edited ones and aren't pending for
+    /// each session, for each session, and with those that read the edited ones; where several cells read something
+    /// new, or a cycle may be closed or opened, with all that depend on them; the memory for a session with those that
+    /// aren't pending for it.
     pub fn set(&mut self, at: Address, content: &str, force: bool) -> Result<(), Refusal>
         ensures step { Serves (IsCallStep self.old.state (call.Set force at content.now))
             result self.old.state self.new.state [] }
@@ -135,8 +136,8 @@ impl<C: Calculator> Workbook<C> {
         )
     }
 
-    /// Empties the cells of a rectangle of any size. `force` is as of `set`. The work grows with its occupied cells; for each a search
-    /// passes cells that stand beside it, in no more rows than the rectangle has columns.
+    /// Empties the cells of a rectangle of any size. `force` is as of `set`. The work grows with its occupied cells;
+    /// for each a search passes cells that stand beside it, in no more rows than the rectangle has columns.
     pub fn clear(&mut self, area: Rect, force: bool) -> Result<(), Refusal>
         ensures step { Serves (IsCallStep self.old.state (call.Clear force area))
             result self.old.state self.new.state [] }
@@ -155,9 +156,9 @@ impl<C: Calculator> Workbook<C> {
         )
     }
 
-    /// Copies a cell's content to each cell of a rectangle, also where that cell lies in it. The relative parts of a formula's
-    /// references move by the distance; where one would leave the sheet, the whole command is refused. From an empty cell
-    /// the rectangle is emptied. `force` is as of `set`. The work grows with the cells of the rectangle.
+    /// Copies a cell's content to each cell of a rectangle, also where that cell lies in it. The relative parts of a
+    /// formula's references move by the distance; where one would leave the sheet, the whole command is refused. From
+    /// an empty cell the rectangle is emptied. `force` is as of `set`. The work grows with the cells of the rectangle.
     pub fn fill(&mut self, from: Address, area: Rect, force: bool) -> Result<(), Refusal>
         ensures step { Serves (IsCallStep self.old.state (call.Fill force from area))
             result self.old.state self.new.state [] }
@@ -176,9 +177,9 @@ impl<C: Calculator> Workbook<C> {
         )
     }
 
-    /// Puts the fields of a CSV text into cells by the rule of imported fields: field j of record i goes i - 1 below and j - 1 right
-    /// of the cell. An empty field empties its cell; cells without a field stay. It is one edit, done whole or not at all. `force` is as of
-    /// `set`. The work grows with the text.
+    /// Puts the fields of a CSV text into cells by the rule of imported fields: field j of record i goes i - 1 below
+    /// and j - 1 right of the cell. An empty field empties its cell; cells without a field stay. It is one edit, done
+    /// whole or not at all. `force` is as of `set`. The work grows with the text.
     pub fn import(&mut self, at: Address, text: &[u8], force: bool) -> Result<(), Refusal>
         ensures step { ServesData (IsCallStep self.old.state (call.Csv force at text.now))
             result self.old.state self.new.state }
@@ -197,10 +198,10 @@ impl<C: Calculator> Workbook<C> {
         )
     }
 
-    /// Puts a replacement into a scenario, which is made if need be, by the rule of imported fields; an empty content takes the scenario's
-    /// own replacement away. The work grows with the count of scenarios and with the scenario's own replacements. For each session
-    /// all that its scenario puts in is listed twice, as it was and as it will be, whichever scenario that is; where the two
-    /// differ, the work grows with what depends on the cell.
+    /// Puts a replacement into a scenario, which is made if need be, by the rule of imported fields; an empty content
+    /// takes the scenario's own replacement away. The work grows with the count of scenarios and with the scenario's
+    /// own replacements. For each session all that its scenario puts in is listed twice, as it was and as it will be,
+    /// whichever scenario that is; where the two differ, the work grows with what depends on the cell.
     pub fn scenario_set(
         &mut self,
         name: Name<'_>,
@@ -225,8 +226,9 @@ impl<C: Calculator> Workbook<C> {
         )
     }
 
-    /// Takes a scenario's own replacement away, if there is one; the scenario stays. It costs what `scenario_set` does: the work grows
-    /// with the count of scenarios, the scenario's own replacements, all that the sessions' scenarios put in, and what depends on the cell.
+    /// Takes a scenario's own replacement away, if there is one; the scenario stays. It costs what `scenario_set` does:
+    /// the work grows with the count of scenarios, the scenario's own replacements, all that the sessions' scenarios
+    /// put in, and what depends on the cell.
     pub fn scenario_clear(&mut self, name: Name<'_>, at: Address) -> Result<(), Refusal>
         ensures step { Serves (IsStep self.old.state (command.Scenario (bytes_of name.entry)
             (cell at) []))
@@ -245,9 +247,9 @@ impl<C: Calculator> Workbook<C> {
         )
     }
 
-    /// Bases a scenario on another, whose replacements it then puts in too unless it has its own, or on none. It costs what
-    /// `scenario_set` does: the work grows with the count of scenarios, the scenario's own replacements, all that the sessions' scenarios
-    /// put in, and what depends on the cells whose replacement changes.
+    /// Bases a scenario on another, whose replacements it then puts in too unless it has its own, or on none. It costs
+    /// what `scenario_set` does: the work grows with the count of scenarios, the scenario's own replacements, all that
+    /// the sessions' scenarios put in, and what depends on the cells whose replacement changes.
     pub fn scenario_base(&mut self, name: Name<'_>, other: Option<Name<'_>>) -> Result<(), Refusal>
         ensures step { Serves (IsStep self.old.state (command.Base (bytes_of name.entry)
             (option_map bytes_of other.entry))) result self.old.state self.new.state [] }
@@ -265,8 +267,8 @@ impl<C: Calculator> Workbook<C> {
         )
     }
 
-    /// Removes a scenario that no session uses, and on which none is based. Takes no memory. The work grows with the counts of
-    /// scenarios and sessions.
+    /// Removes a scenario that no session uses, and on which none is based. Takes no memory. The work grows with the
+    /// counts of scenarios and sessions.
     pub fn scenario_drop(&mut self, name: Name<'_>) -> Result<(), Refusal>
         ensures step { Serves (IsStep self.old.state (command.Drop (bytes_of name.entry)))
             result self.old.state self.new.state [] }
@@ -277,8 +279,8 @@ impl<C: Calculator> Workbook<C> {
         drop(&self.calculator, &mut self.desk, name.as_str())
     }
 
-    /// The current session uses a scenario, or the sheet as it stands. The work grows with all that the old and the new scenario put
-    /// in, and with what depends on the cells whose replacement changes.
+    /// The current session uses a scenario, or the sheet as it stands. The work grows with all that the old and the new
+    /// scenario put in, and with what depends on the cells whose replacement changes.
     pub fn use_scenario(&mut self, name: Option<Name<'_>>) -> Result<(), Refusal>
         ensures step { Serves
             (IsStep self.old.state (command.Use (option_map bytes_of name.entry)))
@@ -292,8 +294,8 @@ impl<C: Calculator> Workbook<C> {
         use_scenario(self.alloc, &self.calculator, &mut self.desk, as_text(name))
     }
 
-    /// Makes a session current, a new one if need be, which uses the sheet as it stands and was shown nothing. Takes no memory
-    /// where the session is there; for a new one the work grows with the occupied cells.
+    /// Makes a session current, a new one if need be, which uses the sheet as it stands and was shown nothing. Takes no
+    /// memory where the session is there; for a new one the work grows with the occupied cells.
     pub fn session(&mut self, name: Name<'_>) -> Result<(), Refusal>
         ensures step { Serves (IsStep self.old.state (command.As (bytes_of name.entry)))
             result self.old.state self.new.state [] }
@@ -310,8 +312,9 @@ impl<C: Calculator> Workbook<C> {
         session(self.alloc, &self.calculator, &mut self.desk, name.as_str())
     }
 
-    /// Appends the texts that a rectangle's cells show to the current session, a record for each row. The calculator is asked once for
-    /// each cell; beside that the work grows with what the session's scenario puts in and with the length of the records.
+    /// Appends the texts that a rectangle's cells show to the current session, a record for each row. The calculator is
+    /// asked once for each cell; beside that the work grows with what the session's scenario puts in and with the
+    /// length of the records.
     pub fn show(&mut self, area: Rect, out: &mut Vec<u8>) -> Result<(), Refusal>
         ensures step { (records : List ℕ) × (out.new.items ≡ out.old.items ++ records)
             × Serves (IsStep self.old.state (command.Show (corners area)))
@@ -324,8 +327,8 @@ impl<C: Calculator> Workbook<C> {
         show(self.alloc, &mut self.calculator, &self.desk, area, out)
     }
 
-    /// Appends the records of `show`, after a line that tells how many lines they are: `lines`, a space and the count of their
-    /// LF bytes. It costs what `show` does, and is linear in the length of the records beside.
+    /// Appends the records of `show`, after a line that tells how many lines they are: `lines`, a space and the count
+    /// of their LF bytes. It costs what `show` does, and is linear in the length of the records beside.
     pub fn export(&mut self, area: Rect, out: &mut Vec<u8>) -> Result<(), Refusal>
         ensures step { (records : List ℕ) × (out.new.items ≡ out.old.items ++ records)
             × Serves (IsStep self.old.state (command.Export (corners area)))
@@ -338,10 +341,11 @@ impl<C: Calculator> Workbook<C> {
         export(self.alloc, &mut self.calculator, &self.desk, area, out)
     }
 
-    /// Appends a record for each cell whose value isn't what the current session was last shown: address, kind and shown text.
-    /// The session has been shown them then. Only its pending cells are looked at; where there are none, no memory is taken.
-    /// The calculator is asked once for each of them; beside that the work grows with what the session's scenario puts in, with the
-    /// length of the records, and with the changes, some look-ups in the session's snapshot for each.
+    /// Appends a record for each cell whose value isn't what the current session was last shown: address, kind and
+    /// shown text. The session has been shown them then. Only its pending cells are looked at; where there are none, no
+    /// memory is taken. The calculator is asked once for each of them; beside that the work grows with what the
+    /// session's scenario puts in, with the length of the records, and with the changes, some look-ups in the session's
+    /// snapshot for each.
     pub fn changes(&mut self, out: &mut Vec<u8>) -> Result<(), Refusal>
         ensures step { (records : List ℕ) × (out.new.items ≡ out.old.items ++ records)
             × Serves (IsStep self.old.state command.Changes)
@@ -360,9 +364,10 @@ impl<C: Calculator> Workbook<C> {
         changes(self.alloc, &mut self.calculator, &mut self.desk, out)
     }
 
-    /// Appends a record for each cell of a rectangle whose values under two scenarios differ: address, both texts, and the text of
-    /// the second less the first where both are numbers. No name is the sheet as it stands. The calculator is asked twice for each cell;
-    /// beside that the work grows with what both scenarios put in and with the length of the two texts of each cell.
+    /// Appends a record for each cell of a rectangle whose values under two scenarios differ: address, both texts, and
+    /// the text of the second less the first where both are numbers. No name is the sheet as it stands. The calculator
+    /// is asked twice for each cell; beside that the work grows with what both scenarios put in and with the length of
+    /// the two texts of each cell.
     pub fn compare(
         &mut self,
         first: Option<Name<'_>>,
@@ -394,11 +399,11 @@ impl<C: Calculator> Workbook<C> {
         )
     }
 
-    /// Appends the records of a table: for each cell X of a column its shown text, and what the formula cell shows if the
-    /// input had the value of X. With a second input, and a row of cells, one entry for each cell Y of the row, beside X, if
-    /// the second input had the value of Y too; above them stands a record with an empty field and the shown texts of the row.
-    /// A column or a row that is none is refused as `BadCommand`. Each entry costs as much as the formulas that depend on the
-    /// inputs, as far as the formula cell reads them.
+    /// Appends the records of a table: for each cell X of a column its shown text, and what the formula cell shows if
+    /// the input had the value of X. With a second input, and a row of cells, one entry for each cell Y of the row,
+    /// beside X, if the second input had the value of Y too; above them stands a record with an empty field and the
+    /// shown texts of the row. A column or a row that is none is refused as `BadCommand`. Each entry costs as much as
+    /// the formulas that depend on the inputs, as far as the formula cell reads them.
     pub fn table(
         &mut self,
         formula_cell: Address,
@@ -424,8 +429,8 @@ impl<C: Calculator> Workbook<C> {
         table(self.alloc, &mut self.calculator, &self.desk, &asked, out)
     }
 
-    /// Gives back the memory of all that the calculator can find again. Takes none. The work grows with what goes; later questions find it
-    /// again.
+    /// Gives back the memory of all that the calculator can find again. Takes none. The work grows with what goes;
+    /// later questions find it again.
     pub fn forget(&mut self)
         ensures { self.new ≡ self.old }
     {
@@ -433,8 +438,8 @@ impl<C: Calculator> Workbook<C> {
     }
 
     /// Appends a record: a cell's address and its content, which is a formula as printed, a text after an apostrophe,
-    /// another constant as shown, and empty where there is none. One look-up in the sheet; beside that the work grows with the length of
-    /// the record.
+    /// another constant as shown, and empty where there is none. One look-up in the sheet; beside that the work grows
+    /// with the length of the record.
     pub fn formula_text(&self, at: Address, out: &mut Vec<u8>) -> Result<(), Refusal>
         ensures { (records : List ℕ) × (out.new.items ≡ out.old.items ++ records)
             × Serves (IsStep self.now.state (command.Formula (cell at)))

@@ -17,7 +17,8 @@ pub fn parts<'a>(text: &'a str, mark: &str) -> io::Result<(&'a str, &'a str)> {
     text.split_once(mark).ok_or_else(misspelled)
 }
 
-/// Appends the bytes that a text spells: `\n`, `\r` and `\x` with two hexadecimal digits are a byte each, and all else is itself.
+/// Appends the bytes that a text spells: `\n`, `\r` and `\x` with two hexadecimal digits are a byte each, and all else
+/// is itself.
 pub fn push_spelled(text: &str, bytes: &mut Vec<u8>) -> io::Result<()> {
     let mut pieces = text.split('\\');
     if let Some(front) = pieces.next() {

@@ -66,8 +66,8 @@ fn amiss_by(told: &Told, fault: RunFault, is_written: bool) -> Option<&'static s
     }
 }
 
-/// What is amiss of a run of which the call was reached that fails. Of the replies those to the commands are written that were
-/// complete where a read failed, and a front where a write did; after it nothing more is read.
+/// What is amiss of a run of which the call was reached that fails. Of the replies those to the commands are written
+/// that were complete where a read failed, and a front where a write did; after it nothing more is read.
 fn amiss_at_fault(
     exchange: &Exchange,
     plan: &Plan,
@@ -176,7 +176,8 @@ fn count_of_kind(
     count_calls(alloc, exchange, plan, text)
 }
 
-/// Appends, for each number of bytes that a call moves, how many calls failed, one a run, and before these what is amiss.
+/// Appends, for each number of bytes that a call moves, how many calls failed, one a run, and before these what is
+/// amiss.
 fn push_kind(
     alloc: Global,
     exchange: &Exchange,

@@ -79,8 +79,8 @@ impl Exchange {
         self.replies.starts_with(written) && written.len() == self.due(read)
     }
 
-    /// Whether these are the replies to the commands that are complete in so many bytes of the script, but for some bytes of the
-    /// last reply, and the script ends there with a command.
+    /// Whether these are the replies to the commands that are complete in so many bytes of the script, but for some
+    /// bytes of the last reply, and the script ends there with a command.
     pub fn are_cut(&self, written: &[u8], read: usize) -> bool {
         let before = self.due(read.saturating_sub(1));
         let len = written.len();

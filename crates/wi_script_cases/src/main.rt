@@ -1,6 +1,7 @@
-//! Reads scripts, some of them with their replies. Of the ones it prints what they show on calculators that keep values and on one that
-//! keeps none, and how many formulas these evaluate; of the others what becomes of them where a stream fails. A line such as
-//! `@scripts` begins a section, and the lines below it are its cases; in the head of each section stands its notation.
+//! Reads scripts, some of them with their replies. Of the ones it prints what they show on calculators that keep values
+//! and on one that keeps none, and how many formulas these evaluate; of the others what becomes of them where a stream
+//! fails. A line such as `@scripts` begins a section, and the lines below it are its cases; in the head of each section
+//! stands its notation.
 #![tactic(auto)]
 
 mod byte_spelling;

@@ -51,8 +51,8 @@ fn push_rises(name: &str, keep: usize, numbers: &[u64], text: &mut Vec<u8>) -> i
     writeln!(text)
 }
 
-/// Appends what was counted in a run, where there are counts: the evaluations, and the restarts where these are asked for. With
-/// two kept values the contracts leave some counts open, so these aren't told.
+/// Appends what was counted in a run, where there are counts: the evaluations, and the restarts where these are asked
+/// for. With two kept values the contracts leave some counts open, so these aren't told.
 fn push_counted(case: &Case, run: &Run, keep: usize, text: &mut Vec<u8>) -> io::Result<()> {
     if run.counted.is_empty() || keep == 2 {
         return Ok(());

@@ -4,8 +4,8 @@ use Rattle.std.specs.List.{slice_index_or, list_all}
 use Rattle.wi_values.specs.Address.{is_one_of}
 use Rattle.wi_sessions.specs.Sessions.{Session, new_session}
 
--- The sessions in order of making, and for each in the same order the cells that are pending, and those for which there is
--- room only.
+-- The sessions in order of making, and for each in the same order the cells that are pending, and those for which there
+-- is room only.
 pub record Roster : Type 0 where
   pub sessions : List Session
   pub pending : List (List ℕ)

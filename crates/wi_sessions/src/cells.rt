@@ -1,5 +1,5 @@
-//! Cells with a bit for each session for which they are pending or have room only. Bits of rooms stand in a list beside them
-//! too: as that is emptied the cells are pending, with no search and no memory.
+//! Cells with a bit for each session for which they are pending or have room only. Bits of rooms stand in a list beside
+//! them too: as that is emptied the cells are pending, with no search and no memory.
 
 ghost use Rattle.std.specs.Prelude.{◌≡◌, ◌≢◌, true, ◌==◌, ◌<◌, ◌*◌, ℕ, Some, None, MatchResult, OnOk, ◌++◌, ◌∷◌, ◌||◌, ◌&&◌, filter, [], OnErr};
 ghost use Rattle.std.specs.Option.{is_some};

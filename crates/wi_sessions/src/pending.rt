@@ -24,8 +24,8 @@ use std::marker::Model;
 use wi_tiles::CellMap;
 use wi_values::Address;
 
-/// The cells that are pending for each session: of all others its picture has the value. An edit first makes room for the cells that
-/// it may change, and lets them take it once it is done, which takes no memory.
+/// The cells that are pending for each session: of all others its picture has the value. An edit first makes room for
+/// the cells that it may change, and lets them take it once it is done, which takes no memory.
 #[derive(Drop)]
 pub(crate) struct Pending {
     words: Words,
@@ -74,8 +74,8 @@ impl Pending {
         }
     }
 
-    /// One session more, for which these cells are pending. On an error all is as before. It is an error too where there are 64.
-    /// For each cell it takes two look-ups, and puts it in where it stands for no session.
+    /// One session more, for which these cells are pending. On an error all is as before. It is an error too where
+    /// there are 64. For each cell it takes two look-ups, and puts it in where it stands for no session.
     pub(crate) fn push(&mut self, cells: &[Address]) -> Result<(), AllocError>
         ensures pending { OnOk result ((new : List ℕ)
             × (self.new.pending ≡ self.old.pending ++ new ∷ []) × SameCells new cells.now) }
@@ -94,9 +94,9 @@ impl Pending {
         Ok(())
     }
 
-    /// Makes room for each of the cells that isn't pending for a session; none is pending yet. On an error its rooms go. The work for
-    /// each cell is that of two look-ups, and of putting it in where it stands for no session: the same however many cells there are,
-    /// but for a search among the tiles of 16 rows.
+    /// Makes room for each of the cells that isn't pending for a session; none is pending yet. On an error its rooms
+    /// go. The work for each cell is that of two look-ups, and of putting it in where it stands for no session: the
+    /// same however many cells there are, but for a search among the tiles of 16 rows.
     pub(crate) fn make_room(&mut self, i: usize, cells: &[Address]) -> Result<(), AllocError>
         requires { i < length self.old.pending }
         ensures { GetsRoom cells.now i result self.old self.new }
@@ -174,8 +174,8 @@ impl Pending {
         }
     }
 
-    /// The cells that are pending for a session or have room only, in row-major order, at the cost of `cells`. Where there are none,
-    /// it takes no memory.
+    /// The cells that are pending for a session or have room only, in row-major order, at the cost of `cells`. Where
+    /// there are none, it takes no memory.
     pub(crate) fn all(&self, i: usize) -> Result<Vec<Address>, AllocError>
         requires { i < length self.now.pending }
         ensures { MatchResult result (λ found.
@@ -186,9 +186,10 @@ impl Pending {
         all_of(self.alloc, &self.words, &self.changed, &self.unread[i], i)
     }
 
-    /// The cells that are pending for a session, in row-major order. It takes a look-up for each cell that was marked since it was
-    /// last told, and a sort where they were marked by several edits; or a step for each cell that is pending for any session, where
-    /// these are no more, or where too many were marked to be listed. Where there are none, it takes no memory.
+    /// The cells that are pending for a session, in row-major order. It takes a look-up for each cell that was marked
+    /// since it was last told, and a sort where they were marked by several edits; or a step for each cell that is
+    /// pending for any session, where these are no more, or where too many were marked to be listed. Where there are
+    /// none, it takes no memory.
     pub(crate) fn cells(&self, i: usize) -> Result<Vec<Address>, AllocError>
         requires { i < length self.now.pending }
         ensures list { IfOk result (λ found. found.items ≡ list_at self.now.pending i) }
@@ -212,8 +213,8 @@ impl Pending {
         let _ = self.words.len();
     }
 
-    /// No cell is pending for a session any more, nor has room; these are all of them. Takes no memory. Each is looked up;
-    /// where there is one session, each is dropped instead.
+    /// No cell is pending for a session any more, nor has room; these are all of them. Takes no memory. Each is looked
+    /// up; where there is one session, each is dropped instead.
     pub(crate) fn clear(&mut self, i: usize, all: &[Address])
         requires within { i < length self.old.pending }
         requires all { (a : ℕ) → is_one_of all.now a ≡ (is_one_of (list_at self.old.pending i) a
@@ -373,7 +374,8 @@ fn stage_own(
     Ok(())
 }
 
-/// Tracks cells that an edit may change, and makes room for them for each session. If memory runs out, there is room for a part of them.
+/// Tracks cells that an edit may change, and makes room for them for each session. If memory runs out, there is room
+/// for a part of them.
 fn stage_all(
     words: &mut Words,
     staged: &mut Vec<StagedBits>,

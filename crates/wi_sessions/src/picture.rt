@@ -57,15 +57,16 @@ impl Picture {
         }
     }
 
-    /// The value of a cell; none if it was empty. Logarithmic in the tiles of its 16 rows that have something, and else constant.
+    /// The value of a cell; none if it was empty. Logarithmic in the tiles of its 16 rows that have something, and else
+    /// constant.
     pub fn value(&self, at: Address) -> Option<&Value>
         ensures { unwrap_or (option_copied result) Empty ≡ value_in self.now at }
     {
         self.values.get(at)
     }
 
-    /// Whether a cell had this value. One look-up by `value`, logarithmic in the tiles of 16 rows, and a comparison, at most linear in
-    /// the length of a text.
+    /// Whether a cell had this value. One look-up by `value`, logarithmic in the tiles of 16 rows, and a comparison, at
+    /// most linear in the length of a text.
     pub fn has(&self, at: Address, value: &Value) -> bool
         ensures { result ≡ same_value (value_in self.now at) value.now }
     {
@@ -75,9 +76,9 @@ impl Picture {
         }
     }
 
-    /// Puts changes in, one after another: cells and the values that they have now. On an error all is as before. The work
-    /// for each change is that of two look-ups, of one more where a value is taken away or memory runs out, and of putting a value in
-    /// where none stands or taking it away. Without changes it takes no memory.
+    /// Puts changes in, one after another: cells and the values that they have now. On an error all is as before. The
+    /// work for each change is that of two look-ups, of one more where a value is taken away or memory runs out, and of
+    /// putting a value in where none stands or taking it away. Without changes it takes no memory.
     pub fn apply(&mut self, mut changes: Vec<Change>) -> Result<(), AllocError>
         ensures done { OnOk result (self.new ≡ with_changes self.old changes.items) }
         ensures refused { OnErr result (self.new ≡ self.old) }
@@ -105,8 +106,8 @@ fn put_changes(values: &mut CellMap<Value>, changes: &mut [Change]) -> Result<()
     Ok(())
 }
 
-/// Puts changes in, one after another, and answers how many cells have a value then, or leaves the values as they were; `before` is
-/// how many have one before. Rooms of the changed cells may be vacant after either.
+/// Puts changes in, one after another, and answers how many cells have a value then, or leaves the values as they were;
+/// `before` is how many have one before. Rooms of the changed cells may be vacant after either.
 fn exchange_values(
     values: &mut CellMap<Value>,
     before: u64,

@@ -53,7 +53,8 @@ impl Model for Sessions {
 }
 
 impl Sessions {
-    /// One session, which uses the sheet as it stands and was shown nothing; these cells, the occupied ones, are pending.
+    /// One session, which uses the sheet as it stands and was shown nothing; these cells, the occupied ones, are
+    /// pending.
     pub fn new(alloc: Global, name: &str, cells: &[Address]) -> Result<Sessions, AllocError>
         ensures sessions { IfOk result (λ s. s.sessions ≡ new_session name.now ∷ []) }
         ensures pending { IfOk result (λ s. SameCells (pending_of s 0) cells.now) }
@@ -70,9 +71,9 @@ impl Sessions {
         Ok(sessions)
     }
 
-    /// Adds a session at the end, as `new` makes one. On an error all is as before. It is an error too where a session of this name is
-    /// there already, as `find` tells, and where there are 64. For each cell it costs what `make_room` does: two look-ups in a map, and
-    /// putting it in where it is pending for no session.
+    /// Adds a session at the end, as `new` makes one. On an error all is as before. It is an error too where a session
+    /// of this name is there already, as `find` tells, and where there are 64. For each cell it costs what `make_room`
+    /// does: two look-ups in a map, and putting it in where it is pending for no session.
     pub fn push(&mut self, name: &str, cells: &[Address]) -> Result<(), AllocError>
         ensures sessions { OnOk result (self.new.sessions
             ≡ self.old.sessions ++ new_session name.now ∷ []) }
@@ -147,8 +148,9 @@ impl Sessions {
         self.at(i).seen
     }
 
-    /// The cells that are pending for a session, in row-major order. One look-up for each cell that was marked since it was last told,
-    /// and a sort where several edits marked them; or linear in the cells that are pending for any session, where these are no more.
+    /// The cells that are pending for a session, in row-major order. One look-up for each cell that was marked since it
+    /// was last told, and a sort where several edits marked them; or linear in the cells that are pending for any
+    /// session, where these are no more.
     pub fn pending_cells(&self, i: usize) -> Result<Vec<Address>, AllocError>
         requires { i < length self.now.sessions }
         ensures list { IfOk result (λ found. found.items ≡ pending_of self.now i) }
@@ -179,9 +181,9 @@ impl Sessions {
         self.details[i].use_scenario(scenario);
     }
 
-    /// Puts a change list into a session's picture, when the log has this length; no cell is pending for it then. On an error
-    /// all is as before. It costs what `Picture::apply` does, some look-ups for each change, and what `pending_cells` does, with one
-    /// look-up for each pending cell.
+    /// Puts a change list into a session's picture, when the log has this length; no cell is pending for it then. On an
+    /// error all is as before. It costs what `Picture::apply` does, some look-ups for each change, and what
+    /// `pending_cells` does, with one look-up for each pending cell.
     pub fn tell(&mut self, i: usize, changes: Vec<Change>, seen: u64) -> Result<(), AllocError>
         requires { i < length self.old.sessions }
         ensures sessions { OnOk result (self.new.sessions
@@ -200,8 +202,9 @@ impl Sessions {
         Ok(())
     }
 
-    /// Makes room for each of the cells that isn't pending for a session; none is pending yet. On an error its vacant rooms go.
-    /// The work for each cell is that of two look-ups in a map, and of putting it in where it is pending for no session.
+    /// Makes room for each of the cells that isn't pending for a session; none is pending yet. On an error its vacant
+    /// rooms go. The work for each cell is that of two look-ups in a map, and of putting it in where it is pending for
+    /// no session.
     pub fn make_room(&mut self, i: usize, cells: &[Address]) -> Result<(), AllocError>
         requires { i < length self.old.sessions }
         ensures sessions { self.new.sessions ≡ self.old.sessions }
@@ -266,7 +269,7 @@ impl Sessions {
     }
 }
 
-// Adds a session at the end, under a name that none has. If memory runs out, all is as before.
+/// Adds a session at the end, under a name that none has. If memory runs out, all is as before.
 fn add(sessions: &mut SessionMap, name: RcStr, details: Details) -> Result<(), AllocError>
     requires { is_some
         (lookup (λ k. bytes_eq (rc_str_bytes name) (rc_str_bytes k)) sessions.old.entries) ≡ false }

@@ -7,8 +7,8 @@ ghost use Rattle.wi_sessions.specs.Inner.Unread.{is_unread, HavePlaces, AreLooke
 use std::alloc::{AllocError, Global};
 use wi_values::Address;
 
-/// Where the cells stand that are pending for a session or have room only: behind a place of the list of changed cells, or in a
-/// list of its own. They may stand anywhere where it hasn't looked for long.
+/// Where the cells stand that are pending for a session or have room only: behind a place of the list of changed cells,
+/// or in a list of its own. They may stand anywhere where it hasn't looked for long.
 #[derive(Drop)]
 pub(crate) struct Unread {
     pub(crate) anywhere: bool,
@@ -101,7 +101,8 @@ fn begin_anew(unread: &mut Vec<Unread>, count: usize)
     }
 }
 
-/// A session that is alone looks anywhere: all cells are pending for it, so that no list of them is wanted. Takes no memory.
+/// A session that is alone looks anywhere: all cells are pending for it, so that no list of them is wanted. Takes no
+/// memory.
 fn track_alone(unread: &mut Vec<Unread>)
     requires { length unread.old.items ≡ 1 }
     ensures lists { length unread.new.items ≡ length unread.old.items }
@@ -112,7 +113,8 @@ fn track_alone(unread: &mut Vec<Unread>)
     unread[0].look_anywhere();
 }
 
-/// Tracks changed cells. Where their list would be longer than so many, it begins anew, and who hasn't read it has to look anywhere.
+/// Tracks changed cells. Where their list would be longer than so many, it begins anew, and who hasn't read it has to
+/// look anywhere.
 pub(crate) fn track(
     changed: &mut Vec<Address>,
     unread: &mut Vec<Unread>,

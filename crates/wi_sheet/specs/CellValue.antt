@@ -21,8 +21,8 @@ value_of (Some (Formula t)) of_formula = of_formula t
 abbrev pub replacements : (ℕ → Value) → List (ℕ × ℕ) → List Replacement
 replacements cells pairs = map (λ p. record { at = p.0; value = cells p.1 }) pairs
 
--- A what-if's value, where `value` gives that of each cell of a sheet. The replacement cells are valued in the sheet as it
--- stands, and of two pairs for one input the second stands.
+-- A what-if's value, where `value` gives that of each cell of a sheet. The replacement cells are valued in the sheet as
+-- it stands, and of two pairs for one input the second stands.
 abbrev pub what_if_in : (Sheet → ℕ → Value) → Sheet → ℕ → List (ℕ × ℕ) → Value
 what_if_in value s f pairs = value (put_all s (replacements (value s) pairs)) f
 
@@ -41,7 +41,8 @@ value_within (suc k) s c =
 unfoldable pub cell_value : Sheet → ℕ → Value
 cell_value s c = value_within (length (cells_with_formula s)) s c
 
--- a what-if's value, which is asked for only where nothing that it reads is circular: it would let a replacement cut a cycle
+-- a what-if's value, which is asked for only where nothing that it reads is circular: it would let a replacement cut a
+-- cycle
 abbrev pub what_if_value : Sheet → ℕ → List (ℕ × ℕ) → Value
 what_if_value = what_if_in cell_value
 

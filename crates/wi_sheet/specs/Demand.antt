@@ -29,7 +29,8 @@ case_of s w c = (c, reaching s c w)
 abbrev pub same_case : Case → Case → Bool
 same_case k j = k.0 == j.0 && same_replacements k.1 j.1
 
--- replacements with those of a what-if put in: each input has the value that its replacement cell has under the outer ones
+-- replacements with those of a what-if put in: each input has the value that its replacement cell has under the outer
+-- ones
 abbrev pub with_what_if : Sheet → List Replacement → List (ℕ × ℕ) → List Replacement
 with_what_if s w pairs = as_replacements (overridden (as_map w) (replacements (cell_value (put_all s w)) pairs))
 

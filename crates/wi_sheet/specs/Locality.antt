@@ -42,7 +42,8 @@ abbrev pub OrderStays : Type 0
 OrderStays = (s : Sheet) (w : List Replacement) → IsInOrder w →
     ((c : ℕ) → IsInOrder (reaching s c w)) × ((pairs : List (ℕ × ℕ)) → IsInOrder (with_what_if s w pairs))
 
--- under the replacements of itself and its precedents at any remove alone, a cell has the same formula, and what that rests on is the same
+-- under the replacements of itself and its precedents at any remove alone, a cell has the same formula, and what that
+-- rests on is the same
 abbrev pub RestsStay : Type 0
 RestsStay = (s : Sheet) (w : List Replacement) (c : ℕ) (t : Tree) → IsInOrder w → content_of (put_all s w) c ≡ Some (Formula t) →
     (content_of (put_all s (reaching s c w)) c ≡ Some (Formula t)) × (precedent_cases s (reaching s c w) t ≡ precedent_cases s w t)

@@ -14,14 +14,14 @@ use Rattle.wi_sheet.specs.Demand.{Case, case_of, what_if_case, demand, different
 abbrev pub asks_circular : Sheet → ℕ → List (ℕ × ℕ) → Bool
 asks_circular s f pairs = circular s f || list_any (λ x. circular s x.1) pairs
 
--- Circular where its formula cell or a replacement cell is, in the sheet as it stands; else the what-if's value under the
--- replacements, valued as a formula in a cell of its own that nothing reads, so that Empty becomes 0.
+-- Circular where its formula cell or a replacement cell is, in the sheet as it stands; else the what-if's value under
+-- the replacements, valued as a formula in a cell of its own that nothing reads, so that Empty becomes 0.
 unfoldable pub table_entry : Sheet → List Replacement → ℕ → List (ℕ × ℕ) → Value
 table_entry s p f pairs =
     if asks_circular s f pairs then Fault Circular else zero_for_empty (what_if_value (put_all s p) f pairs)
 
--- the cases that an entry demands which isn't circular: those of its replacement cells, and of its formula cell with the inputs
--- replaced
+-- the cases that an entry demands which isn't circular: those of its replacement cells, and of its formula cell with
+-- the inputs replaced
 abbrev pub open_demand : Sheet → List Replacement → ℕ → List (ℕ × ℕ) → List Case
 open_demand s w f pairs = flat_map (λ x. demand s (case_of s w x.1)) pairs ++ demand s (what_if_case s w (f, pairs))
 

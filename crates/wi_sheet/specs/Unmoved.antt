@@ -11,12 +11,14 @@ use Rattle.wi_sheet.specs.Shown.{shown}
 abbrev pub SayTheSameOff : List Replacement → List Replacement → List ℕ → Type 0
 SayTheSameOff p q cells = (d : ℕ) → is_one_of cells d ≡ false → last_for p d ≡ last_for q d
 
--- The cell shows one value in all sheets that are s but for these cells, under all replacements that are the same but for them.
+-- The cell shows one value in all sheets that are s but for these cells, under all replacements that are the same but
+-- for them.
 abbrev pub IsUnmoved : Sheet → List ℕ → ℕ → Type 0
 IsUnmoved s cells c = (t u : Sheet) (p q : List Replacement) → SameOff s t cells → SameOff s u cells → SayTheSameOff p q cells → shown t p c ≡ shown u q c
 
--- What is so of a test that marks cells where some change: no other cell moves, each marked one is one of these or has a formula, and what
--- a marked cell marks is marked too. A cell marks after an edit what it marked before, or what the edited cells mark.
+-- What is so of a test that marks cells where some change: no other cell moves, each marked one is one of these or has
+-- a formula, and what a marked cell marks is marked too. A cell marks after an edit what it marked before, or what the
+-- edited cells mark.
 pub record IsMarking (marked : Sheet → List ℕ → ℕ → Bool) : Type 0 where
   pub unmoved : (s : Sheet) (xs : List ℕ) (c : ℕ) → marked s xs c ≡ false → IsUnmoved s xs c
   pub formulas : (s : Sheet) (xs : List ℕ) (c : ℕ) → marked s xs c ≡ true → (has_formula (content_of s c) || is_one_of xs c) ≡ true

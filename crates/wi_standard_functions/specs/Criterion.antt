@@ -34,7 +34,8 @@ operators =
     (codes "<>", is_unequal) ∷ (codes "<=", is_match is_le) ∷ (codes ">=", is_match is_ge)
     ∷ (codes "=", is_match is_eq) ∷ (codes "<", is_match is_lt) ∷ (codes ">", is_match is_gt) ∷ []
 
--- the relation of the first operator that the text begins with, to the constant that follows; else equality to the whole text's
+-- the relation of the first operator that the text begins with, to the constant that follows; else equality to the
+-- whole text's
 abbrev pub criterion_by : List (Bytes × (Value → Value → Bool)) → Bytes → Criterion
 criterion_by [] text = equal_to (constant_of text)
 criterion_by (o ∷ os) text =

@@ -1,5 +1,5 @@
--- Which values are found, and where, as MATCH, the look-ups and criteria find them: on every list, sorted or not, by this project's
--- rule.
+-- Which values are found, and where, as MATCH, the look-ups and criteria find them: on every list, sorted or not, by
+-- this project's rule.
 use Rattle.std.specs.Prelude.{ℕ, pos, ◌==◌, Bool, false, true, ◌&&◌, int_lt, List, map, filter, position, Option, None, if◌then◌else◌}
 use Rattle.std.specs.List.{enumerate_from, last_or}
 use Rattle.std.specs.Ordering.{int_eq, is_eq, is_le, is_ge}

@@ -1,4 +1,5 @@
--- Sequences of items, as OpenFormula's NumberSequence and LogicalSequence, and what counts of them by this project's rules.
+-- Sequences of items, as OpenFormula's NumberSequence and LogicalSequence, and what counts of them by this project's
+-- rules.
 use Rattle.std.specs.Prelude.{Bool, List, [], ◌∷◌, map, flat_map, Option, Some, None, option_to_list, Result, Ok, Err}
 use Rattle.wi_fraction.specs.Number as numbers
 use Rattle.wi_values.specs.declared.value.ErrorKind.{ErrorKind}

@@ -70,8 +70,8 @@ impl<'a> Iterator for Contents<'a> {
 
     ghost remaining = { λ s. at_most (length s) };
 
-    /// A step among the bits of a tile of 16 rows by 4 columns for each content, and one search for each 16 rows; and where more than
-    /// one of their tiles lie in the rectangle, one step more for each tile of each row.
+    /// A step among the bits of a tile of 16 rows by 4 columns for each content, and one search for each 16 rows; and
+    /// where more than one of their tiles lie in the rectangle, one step more for each tile of each row.
     fn next(&mut self) -> Option<(Address, &'a Content)> {
         match self.rooms.next() {
             Some((cell, room)) => match room.content() {

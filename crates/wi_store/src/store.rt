@@ -115,12 +115,12 @@ impl Store {
         let _ = self.rooms.len();
     }
 
-    /// One edit, which gives each named cell a content or none; the constant Empty is none. Of two pairs for one
-    /// cell the later counts.
-    /// `Full` if the sheet would then have more occupied cells than the limit, or else `EditLimit` if no more
-    /// edits are accepted; `Memory` if memory runs out. After each of them all is as before. The work for each
-    /// pair is the same whatever the count of occupied cells, but for the searches among the tiles of 16 rows: two for a content,
-    /// and one for none; up to two more for each pair where a cell loses its content, and up to three where the edit is refused.
+    /// One edit, which gives each named cell a content or none; the constant Empty is none. Of two pairs for one cell
+    /// the later counts. `Full` if the sheet would then have more occupied cells than the limit, or else `EditLimit` if
+    /// no more edits are accepted; `Memory` if memory runs out. After each of them all is as before. The work for each
+    /// pair is the same whatever the count of occupied cells, but for the searches among the tiles of 16 rows: two for
+    /// a content, and one for none; up to two more for each pair where a cell loses its content, and up to three where
+    /// the edit is refused.
     pub fn apply(&mut self, mut changes: Vec<NewContent>) -> Result<(), StoreFault>
         ensures { Applies (applied self.old changes.items) result self.old self.new }
     {
@@ -161,8 +161,8 @@ impl Store {
         formula_cells(self.alloc, Contents::all(&self.rooms))
     }
 
-    /// The cells of a rectangle that have a formula, in row-major order. It takes all steps of `contents_from`, one for each
-    /// occupied cell of the rectangle.
+    /// The cells of a rectangle that have a formula, in row-major order. It takes all steps of `contents_from`, one for
+    /// each occupied cell of the rectangle.
     pub fn formulas_in(&self, area: Rect) -> Result<Vec<Address>, AllocError>
         ensures { IfOk result (λ found.
             found.items ≡ filter (is_within area) (cells_with_formula self.now.sheet)) }
@@ -170,8 +170,8 @@ impl Store {
         formula_cells(self.alloc, self.contents_from(area, area.first()))
     }
 
-    /// The first occupied cell of a rectangle, in row-major order, at a cell or after it, at the cost of `next_content`: searches among
-    /// the tiles of 16 rows up to it.
+    /// The first occupied cell of a rectangle, in row-major order, at a cell or after it, at the cost of
+    /// `next_content`: searches among the tiles of 16 rows up to it.
     pub fn next_occupied(&self, area: Rect, from: Address) -> Option<Address>
         ensures { result ≡ find
             (λ a. nat_le from a) (filter (is_within area) (keys_of self.now.sheet)) }
@@ -196,9 +196,9 @@ impl Store {
         }
     }
 
-    /// The contents of a rectangle with their cells, in row-major order, at a cell or after it. Made in constant time; a step for each
-    /// of them, one search for each 16 rows, and where more than one of their tiles lie in the rectangle, one step more for each tile
-    /// of each row.
+    /// The contents of a rectangle with their cells, in row-major order, at a cell or after it. Made in constant time;
+    /// a step for each of them, one search for each 16 rows, and where more than one of their tiles lie in the
+    /// rectangle, one step more for each tile of each row.
     pub fn contents_from(&self, area: Rect, from: Address) -> Contents<'_>
         ensures { result ≡ filter (λ e. is_ahead area (Some from) e.0) self.now.sheet }
     {
@@ -206,7 +206,7 @@ impl Store {
     }
 }
 
-// The cells of the contents that are a formula.
+/// The cells of the contents that are a formula.
 fn formula_cells(alloc: Global, contents: Contents<'_>) -> Result<Vec<Address>, AllocError>
     ensures { IfOk result (λ found. found.items ≡ formula_cells contents.entry) }
 {
@@ -219,15 +219,15 @@ fn formula_cells(alloc: Global, contents: Contents<'_>) -> Result<Vec<Address>, 
     Ok(found)
 }
 
-// Whether a content is a formula.
+/// Whether a content is a formula.
 fn is_formula(content: &Content) -> bool
     ensures { result ≡ has_formula (Some content.now) }
 {
     matches!(content, Content::Formula(_))
 }
 
-// Does an edit, and answers how many cells have a content then, or refuses it and leaves the sheet as it was; `before` is how
-// many have one before. Rooms of the changed cells may be vacant after either.
+/// Does an edit, and answers how many cells have a content then, or refuses it and leaves the sheet as it was; `before`
+/// is how many have one before. Rooms of the changed cells may be vacant after either.
 fn edit(
     rooms: &mut Rooms,
     before: u64,

@@ -1,5 +1,5 @@
-//! What calculators are asked, and what they are to answer. A call that is refused as out of memory is made again; what is
-//! asked so tells whether it was answered at once, as it must be where no memory is refused.
+//! What calculators are asked, and what they are to answer. A call that is refused as out of memory is made again; what
+//! is asked so tells whether it was answered at once, as it must be where no memory is refused.
 
 ghost use Rattle.wi_values.specs.Replacements.{IsInOrder};
 
@@ -11,7 +11,7 @@ use wi_propagate::Calculator;
 use wi_store::StoreFault;
 use wi_values::{Address, Replacement, Value};
 
-// Puts contents into cells by one edit, where there is memory for them.
+/// Puts contents into cells by one edit, where there is memory for them.
 fn edit<C: Calculator>(
     rt: &impl Abort,
     alloc: Global,
@@ -73,7 +73,7 @@ fn truth(value: Value) -> Option<bool> {
     }
 }
 
-// The truth value that a cell shows, or the entry of a data table with these pairs and this formula cell.
+/// The truth value that a cell shows, or the entry of a data table with these pairs and this formula cell.
 fn ask<C: Calculator>(
     calculator: &mut C,
     at: Address,
@@ -87,14 +87,14 @@ fn ask<C: Calculator>(
     Ok(truth(value))
 }
 
-// What a question was answered, and whether at once.
+/// What a question was answered, and whether at once.
 #[derive(Clone, Copy)]
 struct Answer {
     truth: Option<bool>,
     at_once: bool,
 }
 
-// What `ask` answers, and whether at once. Where memory is refused, it asks again; then there is memory.
+/// What `ask` answers, and whether at once. Where memory is refused, it asks again; then there is memory.
 fn asked<C: Calculator>(
     rt: &impl Abort,
     calculator: &mut C,
@@ -142,7 +142,7 @@ pub fn expect_no_truth<C: Calculator>(rt: &impl Abort, calculator: &mut C, at: A
     answer.at_once
 }
 
-// What is answered with no evaluation. Tells whether it was answered at once.
+/// What is answered with no evaluation. Tells whether it was answered at once.
 fn expect_looked_up<C: Calculator>(
     rt: &impl Abort,
     calculator: &mut C,
@@ -171,15 +171,15 @@ pub fn expect_kept<C: Calculator>(
     answer.at_once && looked_up_at_once
 }
 
-// An edit that was refused as out of memory: D4 has no content and C4 is looked up as FALSE.
+/// An edit that was refused as out of memory: D4 has no content and C4 is looked up as FALSE.
 fn expect_unedited<C: Calculator>(rt: &impl Abort, calculator: &mut C, fault: StoreFault) {
     expect_that(rt, fault == StoreFault::Memory, "memory");
     expect_occupied(rt, calculator, &[("D4", false)]);
     expect_looked_up(rt, calculator, cell(rt, "C4"), &[], false);
 }
 
-/// An edit. Where memory is refused, nothing is edited, and the edit is made again. Tells whether it was made at once, or nothing
-/// where there is no memory for what it puts in.
+/// An edit. Where memory is refused, nothing is edited, and the edit is made again. Tells whether it was made at once,
+/// or nothing where there is no memory for what it puts in.
 pub fn expect_edit<C: Calculator>(
     rt: &impl Abort,
     alloc: Global,
@@ -196,8 +196,8 @@ pub fn expect_edit<C: Calculator>(
     }
 }
 
-/// An edit of a sheet where a cell shows no truth value. Where memory is refused, it still shows none, and the edit is made
-/// again. Tells whether it was made at once, or nothing where there is no memory for what it puts in.
+/// An edit of a sheet where a cell shows no truth value. Where memory is refused, it still shows none, and the edit is
+/// made again. Tells whether it was made at once, or nothing where there is no memory for what it puts in.
 pub fn expect_edit_of_cycle<C: Calculator>(
     rt: &impl Abort,
     alloc: Global,

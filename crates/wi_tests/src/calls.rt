@@ -1,5 +1,5 @@
-//! Calls of a sheet on either calculator. The sheet is lent here, and made and dropped in one place for each calculator: to prove
-//! that it is dropped is dear.
+//! Calls of a sheet on either calculator. The sheet is lent here, and made and dropped in one place for each
+//! calculator: to prove that it is dropped is dear.
 
 use crate::answers::{
     expect_edit, expect_edit_of_cycle, expect_kept, expect_marked, expect_next, expect_no_truth,
@@ -50,10 +50,10 @@ fn expect_each_marked<C: Calculator>(
     }
 }
 
-// Turns what C4 shows, and fills other cells.
+/// Turns what C4 shows, and fills other cells.
 const LATER: &str = "A4 9, D4 =[.C4], D5 =[.B1:.C4]+[.B2:.C2], D6 =[.D4]=[.D5], D7 7";
 
-// C4 shows FALSE, and TRUE after the edit. Tells whether each call succeeded at once.
+/// C4 shows FALSE, and TRUE after the edit. Tells whether each call succeeded at once.
 fn expect_turned<C: Calculator>(rt: &impl Abort, alloc: Global, sheet: &mut C) -> bool {
     let at = cell(rt, "C4");
     let before = expect_kept(rt, sheet, at, &[], false);
@@ -63,7 +63,7 @@ fn expect_turned<C: Calculator>(rt: &impl Abort, alloc: Global, sheet: &mut C) -
     }
 }
 
-// B1 and B2 no longer read each other after the edit. Tells whether each call succeeded at once.
+/// B1 and B2 no longer read each other after the edit. Tells whether each call succeeded at once.
 fn expect_opened<C: Calculator>(
     rt: &impl Abort,
     alloc: Global,
@@ -77,7 +77,7 @@ fn expect_opened<C: Calculator>(
     }
 }
 
-// B1 and B2 read each other after the first edit, and not after the second. Tells whether each call succeeded at once.
+/// B1 and B2 read each other after the first edit, and not after the second. Tells whether each call succeeded at once.
 fn expect_closed_and_opened<C: Calculator>(rt: &impl Abort, alloc: Global, sheet: &mut C) -> bool {
     let at = cell(rt, "C4");
     let before = expect_kept(rt, sheet, at, &[], false);
@@ -87,7 +87,7 @@ fn expect_closed_and_opened<C: Calculator>(rt: &impl Abort, alloc: Global, sheet
     }
 }
 
-// Nothing stands in B1 then, so B2 is FALSE; else it is TRUE. Tells whether each call succeeded at once.
+/// Nothing stands in B1 then, so B2 is FALSE; else it is TRUE. Tells whether each call succeeded at once.
 fn expect_replaced<C: Calculator>(rt: &impl Abort, sheet: &mut C) -> bool {
     let at = cell(rt, "B2");
     let put = [Replacement {
@@ -110,7 +110,7 @@ fn expect_mark<C: Calculator>(rt: &impl Abort, sheet: &C) -> bool {
     expect_marked(rt, sheet, &[cell(rt, "B1")], &wanted)
 }
 
-// What is answered is what is to be answered. Tells whether it was answered at once.
+/// What is answered is what is to be answered. Tells whether it was answered at once.
 fn expect_answered<C: Calculator>(
     rt: &impl Abort,
     alloc: Global,
@@ -131,8 +131,8 @@ fn expect_answered<C: Calculator>(
     true
 }
 
-/// Fills an empty sheet by one edit. What is asked then is answered as it is to be. Tells whether all was answered at once, and
-/// that it wasn't where there is no memory to fill the sheet.
+/// Fills an empty sheet by one edit. What is asked then is answered as it is to be. Tells whether all was answered at
+/// once, and that it wasn't where there is no memory to fill the sheet.
 pub fn expect_filled<C: Calculator>(
     rt: &impl Abort,
     alloc: Global,

@@ -50,8 +50,8 @@ fn push_changes(rt: &impl Abort, alloc: Global, texts: &str, changes: &mut Chang
     Some(())
 }
 
-/// Changes, one after another, where there is memory: `A1 5` puts what the text stands for into a cell, `A1 -` takes its content
-/// away.
+/// Changes, one after another, where there is memory: `A1 5` puts what the text stands for into a cell, `A1 -` takes
+/// its content away.
 pub fn changes(rt: &impl Abort, alloc: Global, texts: &str) -> Option<Changes> {
     let mut changes = Vec::new(alloc);
     match push_changes(rt, alloc, texts, &mut changes) {

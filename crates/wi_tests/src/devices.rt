@@ -6,7 +6,7 @@ use std::io::{Read, Write};
 use std::process::Abort;
 use wi_devices::{READS, ReadFrom, Sink, Source, WriteTo};
 
-// Gives its bytes, and then fails.
+/// Gives its bytes, and then fails.
 #[derive(Drop)]
 struct Torn {
     bytes: &'static [u8],
@@ -21,7 +21,7 @@ impl Read for Torn {
     }
 }
 
-// Takes at most two bytes a call, and no more in all than it has room for.
+/// Takes at most two bytes a call, and no more in all than it has room for.
 #[derive(Drop)]
 struct Slow<'a> {
     room: &'a mut [u8],
@@ -38,7 +38,7 @@ impl Write for Slow<'_> {
     }
 }
 
-// How many bytes are read by the first call, or none where it fails.
+/// How many bytes are read by the first call, or none where it fails.
 fn read(rt: &impl Abort, bytes: &'static [u8], buffer: &mut [u8]) -> Option<usize> {
     let mut source = ReadFrom::new(Torn { bytes });
     let had_failed = source.failed();
@@ -61,14 +61,14 @@ fn fails_where_the_reader_fails(rt: HostRuntime) {
     assert!(rt; read(&rt, b"", &mut [0u8; 4]).is_none());
 }
 
-// How many bytes the sink takes, or none where it fails.
+/// How many bytes the sink takes, or none where it fails.
 fn expect_taken(rt: &impl Abort, sink: &mut impl Sink, bytes: &[u8], wanted: Option<usize>) {
     assert!(rt; !sink.failed());
     assert!(rt; sink.write(bytes).ok() == wanted);
     assert!(rt; sink.failed() == wanted.is_none());
 }
 
-// A writer that takes nothing more fails the sink.
+/// A writer that takes nothing more fails the sink.
 #[test]
 fn writes_what_the_writer_takes(rt: HostRuntime) {
     let mut bytes = [0u8; 3];

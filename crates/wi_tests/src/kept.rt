@@ -8,8 +8,8 @@ use std::process::Abort;
 use wi_propagate::KeptCalculator;
 use wi_store::Limits;
 
-/// Whether a call is answered at once by a sheet that keeps so many values, and whose cells have these contents. It isn't where
-/// there is no memory for these.
+/// Whether a call is answered at once by a sheet that keeps so many values, and whose cells have these contents. It
+/// isn't where there is no memory for these.
 pub fn is_answered(rt: &impl Abort, alloc: Global, keep: usize, texts: &str, call: Call<'_>) -> bool
     requires { 1 ≤ keep }
 {
@@ -23,7 +23,7 @@ pub fn is_answered(rt: &impl Abort, alloc: Global, keep: usize, texts: &str, cal
 
 const WHAT_IF: &str = "B1 10, B2 =[.B1]*3, A4 7, C4 =MULTIPLE.OPERATIONS([.B2];[.B1];[.A4])";
 
-// As many values as the program's words let it keep.
+/// As many values as the program's words let it keep.
 const MOST: usize = 1_000_000;
 
 #[test]
@@ -32,7 +32,7 @@ fn cells_with_no_content(rt: HostRuntime) {
     assert!(rt; is_answered(&rt, rt.alloc(), MOST, "C1 =1", call));
 }
 
-// Those that read one of the given at any remove, and the given.
+/// Those that read one of the given at any remove, and the given.
 #[test]
 fn marked_cells(rt: HostRuntime) {
     let call = Call::Marked(&[

@@ -31,7 +31,8 @@ fn expect_count(rt: &impl Abort, kept: &Kept, wanted: usize) {
     assert!(rt; kept.len() == wanted);
 }
 
-/// Keeps values one after another in a list with room for so many; then these are found, and this is how many there are.
+/// Keeps values one after another in a list with room for so many; then these are found, and this is how many there
+/// are.
 fn expect_kept(
     rt: &impl Abort,
     alloc: Global,

@@ -1,6 +1,6 @@
-//! Tests of what no stored run shows: laws, hashes, equality, and calls of stores, worlds, kept values, the range index, graphs,
-//! calculators and devices. What cells and table entries show after edits, and how many evaluations a question takes, are cases
-//! of `wi_script_cases`. They stand apart since a crate with tests is proved twice.
+//! Tests of what no stored run shows: laws, hashes, equality, and calls of stores, worlds, kept values, the range
+//! index, graphs, calculators and devices. What cells and table entries show after edits, and how many evaluations a
+//! question takes, are cases of `wi_script_cases`. They stand apart since a crate with tests is proved twice.
 #![tactic(auto)]
 
 #[cfg(test)]

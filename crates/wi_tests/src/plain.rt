@@ -6,7 +6,7 @@ use std::process::Abort;
 use wi_propagate::PlainCalculator;
 use wi_store::Limits;
 
-// Whether a call is answered at once by a sheet whose cells have these contents.
+/// Whether a call is answered at once by a sheet whose cells have these contents.
 fn is_answered(rt: &impl Abort, alloc: Global, texts: &str, call: Call<'_>) -> bool {
     let mut sheet = PlainCalculator::new(alloc, Limits::standard());
     let at_once = expect_filled(rt, alloc, &mut sheet, texts, call);
@@ -20,7 +20,7 @@ fn cells_with_no_content(rt: HostRuntime) {
     assert!(rt; is_answered(&rt, rt.alloc(), "C1 =1", call));
 }
 
-// All cells with a formula, and the given one.
+/// All cells with a formula, and the given one.
 #[test]
 fn marked_cells(rt: HostRuntime) {
     let call = Call::Marked(&[("B1", "C1 B2 B1")]);

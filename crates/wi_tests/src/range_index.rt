@@ -105,7 +105,7 @@ fn none_of_two_equal_pairs_is_left(rt: HostRuntime) {
     expect_readers_after(&rt, rt.alloc(), steps, &[("A3", "")]);
 }
 
-// Pairs of which some differ in the reader alone, some in the rectangle alone.
+/// Pairs of which some differ in the reader alone, some in the rectangle alone.
 #[test]
 fn readers_stand_in_order(rt: HostRuntime) {
     expect_readers_after(
@@ -123,8 +123,8 @@ fn readers_stand_in_order(rt: HostRuntime) {
     );
 }
 
-/// The pair of this number: ten rows of column A, and one of 250 cells of column B as their reader. Those from 500 on are equal
-/// to those before.
+/// The pair of this number: ten rows of column A, and one of 250 cells of column B as their reader. Those from 500 on
+/// are equal to those before.
 fn numbered(number: u32) -> (Rect, Address) {
     let top = number % 500;
     (
@@ -156,7 +156,8 @@ const READ: [(&str, &str); 5] = [
     ("A510", ""),
 ];
 
-/// The index of a thousand pairs is read, and again when five hundred of them are taken away. No block is left when none is left.
+/// The index of a thousand pairs is read, and again when five hundred of them are taken away. No block is left when
+/// none is left.
 fn expect_thousand(rt: &impl Abort, alloc: Global, index: &mut RangeIndex) {
     add_many(index, 1_000).expect(rt, "memory for a thousand");
     expect_readers(rt, alloc, index, &READ);

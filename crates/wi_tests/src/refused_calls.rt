@@ -1,8 +1,8 @@
 //! Calls of calculators where memory is refused: all is as it was, and the same call once more does what it should.
 //!
-//! `rt try --test --fail-alloc N` refuses the Nth growth, and so one at most in a test. `rt test` and the gate refuse none: there
-//! these tests show that each call succeeds at once. So of two passes at least one must succeed at once, or a call was refused
-//! as out of memory though there is memory.
+//! `rt try --test --fail-alloc N` refuses the Nth growth, and so one at most in a test. `rt test` and the gate refuse
+//! none: there these tests show that each call succeeds at once. So of two passes at least one must succeed at once, or
+//! a call was refused as out of memory though there is memory.
 
 ghost use Rattle.std.specs.Prelude.{◌≤◌};
 
@@ -23,7 +23,7 @@ fn of_questions(rt: HostRuntime) {
     expect_answered(&rt, rt.alloc(), 50, Call::Question);
 }
 
-// The value that came last is kept.
+/// The value that came last is kept.
 #[test]
 fn of_questions_where_one_value_is_kept(rt: HostRuntime) {
     expect_answered(&rt, rt.alloc(), 1, Call::Question);

@@ -1,7 +1,7 @@
 //! Where memory is refused all is as it was.
 //!
-//! `rt try --test --fail-alloc N` refuses the Nth growth, and so one at most in a test. `rt test` and the gate refuse none: there
-//! these tests show that each call succeeds. So of two passes at least one must be without a refusal.
+//! `rt try --test --fail-alloc N` refuses the Nth growth, and so one at most in a test. `rt test` and the gate refuse
+//! none: there these tests show that each call succeeds. So of two passes at least one must be without a refusal.
 
 use crate::keys::{is_logical, keep, keep_in_table, look, look_in_table};
 use crate::stores::{apply, expect_counts};
@@ -15,12 +15,12 @@ use wi_store::{Limits, Store, StoreFault};
 use wi_values::{Address, Rect, Replacement, Text, Value};
 use wi_worlds::{Reaches, World};
 
-// What stands before a record.
+/// What stands before a record.
 fn before(alloc: Global) -> Result<Vec<u8>, AllocError> {
     Vec::from_slice(alloc, b"before")
 }
 
-// A record was appended, or what stood before is all.
+/// A record was appended, or what stood before is all.
 fn is_right(was_pushed: bool, text: &[u8]) -> bool {
     if was_pushed {
         text.len() == 43
@@ -33,7 +33,7 @@ fn count_records(alloc: Global) -> Result<usize, CsvFault> {
     Ok(records(alloc, b"1,2\n3\n")?.len())
 }
 
-// Whether a record was appended.
+/// Whether a record was appended.
 fn is_pushed(rt: &impl Abort, alloc: Global) -> bool {
     let Ok(mut text) = before(alloc) else {
         return false;
@@ -43,7 +43,7 @@ fn is_pushed(rt: &impl Abort, alloc: Global) -> bool {
     was_pushed
 }
 
-// Whether the records of a text were read.
+/// Whether the records of a text were read.
 fn are_read(rt: &impl Abort, alloc: Global) -> bool {
     match count_records(alloc) {
         Ok(count) => {
@@ -70,10 +70,10 @@ fn has(store: &Store, at: Address, sign: bool) -> bool {
     }
 }
 
-// An edit that puts TRUE into A1.
+/// An edit that puts TRUE into A1.
 const ONE: &str = "A1 TRUE";
 
-// An edit that empties A1 and fills forty other cells, which needs memory more than once.
+/// An edit that empties A1 and fills forty other cells, which needs memory more than once.
 const FORTY: &str =
     "A1 -, A2 FALSE, A3 FALSE, A4 FALSE, A5 FALSE, A6 FALSE, A7 FALSE, A8 FALSE, A9 FALSE, \
     A10 FALSE, A11 FALSE, A12 FALSE, A13 FALSE, A14 FALSE, A15 FALSE, A16 FALSE, A17 FALSE, \
@@ -94,7 +94,7 @@ fn expect_one(rt: &impl Abort, store: &Store) {
     }
 }
 
-// A store gets TRUE in A1, and then the edit of forty, or all is as before that. Tells whether both edits were made.
+/// A store gets TRUE in A1, and then the edit of forty, or all is as before that. Tells whether both edits were made.
 fn expect_applied(rt: &impl Abort, alloc: Global, store: &mut Store) -> bool {
     if apply(rt, alloc, store, ONE).is_err() {
         return false;
@@ -124,7 +124,7 @@ fn of_stores(rt: HostRuntime) {
     assert!(rt; is_applied(&rt, rt.alloc()) || is_applied(&rt, rt.alloc()));
 }
 
-// So many readers are listed. Tells whether there was memory for the list.
+/// So many readers are listed. Tells whether there was memory for the list.
 fn expect_readers(rt: &impl Abort, index: &RangeIndex, at: Address, wanted: usize) -> bool {
     match index.readers_of(at) {
         Ok(readers) => {
@@ -135,7 +135,7 @@ fn expect_readers(rt: &impl Abort, index: &RangeIndex, at: Address, wanted: usiz
     }
 }
 
-// A pair of 38 blocks is added to an index of one, and once again. Tells whether each call succeeded.
+/// A pair of 38 blocks is added to an index of one, and once again. Tells whether each call succeeded.
 fn expect_added(rt: &impl Abort, index: &mut RangeIndex) -> bool {
     let (top, bottom) = (Address::at(1, 0), Address::at(1_048_574, 0));
     let reader = Address::at(0, 3);
@@ -148,7 +148,7 @@ fn expect_added(rt: &impl Abort, index: &mut RangeIndex) -> bool {
     times == 2 && at_bottom && at_top
 }
 
-// The index of one has the pair of A1:A10 and C1.
+/// The index of one has the pair of A1:A10 and C1.
 fn is_added(rt: &impl Abort, alloc: Global) -> bool {
     let area = Rect::new(Address::at(0, 0), Address::at(9, 0));
     let mut index = RangeIndex::new(alloc);
@@ -162,7 +162,7 @@ fn of_the_range_index(rt: HostRuntime) {
     assert!(rt; is_added(&rt, rt.alloc()) || is_added(&rt, rt.alloc()));
 }
 
-// One more value is kept in a list of one, or only that one is there. Tells whether it is kept.
+/// One more value is kept in a list of one, or only that one is there. Tells whether it is kept.
 fn expect_second(rt: &impl Abort, alloc: Global, kept: &mut Kept) -> bool {
     let (first, second) = (Address::at(0, 0), Address::at(0, 1));
     let added = keep(alloc, kept, second, Value::Empty).is_ok();
@@ -173,7 +173,7 @@ fn expect_second(rt: &impl Abort, alloc: Global, kept: &mut Kept) -> bool {
     added
 }
 
-// Whether two values are kept in a list of two.
+/// Whether two values are kept in a list of two.
 fn is_kept(rt: &impl Abort, alloc: Global) -> bool {
     let Ok(mut kept) = Kept::new(alloc, 2) else {
         return false;
@@ -189,7 +189,7 @@ fn of_kept_values(rt: HostRuntime) {
     assert!(rt; is_kept(&rt, rt.alloc()) || is_kept(&rt, rt.alloc()));
 }
 
-// Nineteen more values are kept, each of which is found if it was kept. Tells how many were.
+/// Nineteen more values are kept, each of which is found if it was kept. Tells how many were.
 fn expect_more(rt: &impl Abort, alloc: Global, table: &mut RunTable) -> u32 {
     let mut count = 0u32;
     for column in 1..20 {
@@ -202,7 +202,7 @@ fn expect_more(rt: &impl Abort, alloc: Global, table: &mut RunTable) -> u32 {
     count
 }
 
-// Whether all values are kept that a table is given.
+/// Whether all values are kept that a table is given.
 fn is_table_filled(rt: &impl Abort, alloc: Global) -> bool {
     let mut table = RunTable::new(alloc);
     let first = Address::at(0, 0);
@@ -219,7 +219,7 @@ fn of_run_tables(rt: HostRuntime) {
     assert!(rt; is_table_filled(&rt, rt.alloc()) || is_table_filled(&rt, rt.alloc()));
 }
 
-// A world in which A2 is TRUE and C3 is emptied.
+/// A world in which A2 is TRUE and C3 is emptied.
 fn old(alloc: Global) -> Result<World, AllocError> {
     World::new(alloc).with(&[
         Replacement {
@@ -233,7 +233,7 @@ fn old(alloc: Global) -> Result<World, AllocError> {
     ])
 }
 
-// In C3 a text then, and A1 emptied.
+/// In C3 a text then, and A1 emptied.
 fn newer(alloc: Global, world: &World) -> Result<World, AllocError> {
     let three = Value::Text(Text::from_str(alloc, "three")?);
     world.with(&[
@@ -248,7 +248,7 @@ fn newer(alloc: Global, world: &World) -> Result<World, AllocError> {
     ])
 }
 
-// Tells whether the newer world was made.
+/// Tells whether the newer world was made.
 fn expect_newer(rt: &impl Abort, alloc: Global, world: &World) -> bool {
     let Ok(newer) = newer(alloc, world) else {
         return false;
@@ -259,7 +259,7 @@ fn expect_newer(rt: &impl Abort, alloc: Global, world: &World) -> bool {
     true
 }
 
-// Whether each of three worlds was made.
+/// Whether each of three worlds was made.
 fn is_made(rt: &impl Abort, alloc: Global) -> bool {
     let Ok(world) = old(alloc) else {
         return false;
@@ -280,7 +280,7 @@ fn of_worlds(rt: HostRuntime) {
     assert!(rt; is_made(&rt, rt.alloc()) || is_made(&rt, rt.alloc()));
 }
 
-// Forty cells of a column.
+/// Forty cells of a column.
 fn column(alloc: Global) -> Result<Vec<Address>, AllocError> {
     let mut cells = Vec::new(alloc);
     for row in 0..40 {
@@ -289,7 +289,7 @@ fn column(alloc: Global) -> Result<Vec<Address>, AllocError> {
     Ok(cells)
 }
 
-// Whether a cell was made known, with the forty that reach it. Where it wasn't, none is known.
+/// Whether a cell was made known, with the forty that reach it. Where it wasn't, none is known.
 fn is_made_known(rt: &impl Abort, alloc: Global) -> bool {
     let Ok(cone) = column(alloc) else {
         return false;

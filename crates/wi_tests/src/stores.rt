@@ -72,7 +72,7 @@ fn expect_edits(rt: &impl Abort, alloc: Global, limits: Limits, edits: &[Edit<'_
     drop(store);
 }
 
-// Of two pairs for one cell the later counts.
+/// Of two pairs for one cell the later counts.
 #[test]
 fn an_edit_is_read_back(rt: HostRuntime) {
     expect_edits(
@@ -96,7 +96,7 @@ fn an_edit_is_read_back(rt: HostRuntime) {
     );
 }
 
-// One cell may have a content, and three edits may be made.
+/// One cell may have a content, and three edits may be made.
 #[test]
 fn an_edit_is_judged_by_its_end(rt: HostRuntime) {
     expect_edits(
@@ -124,7 +124,7 @@ fn an_edit_is_judged_by_its_end(rt: HostRuntime) {
     );
 }
 
-// The empty text stands for the constant Empty.
+/// The empty text stands for the constant Empty.
 #[test]
 fn the_constant_empty_is_no_content(rt: HostRuntime) {
     let limits = Limits { cells: 0, edits: 1 };

@@ -1,5 +1,6 @@
-//! Values as words, addresses as texts, and the one comparison of texts. A function that compares has as many ways out as it has
-//! comparisons, and each is a branch over all it holds: so what is compared is told by one function, and compared by another.
+//! Values as words, addresses as texts, and the one comparison of texts. A function that compares has as many ways out
+//! as it has comparisons, and each is a branch over all it holds: so what is compared is told by one function, and
+//! compared by another.
 
 use std::alloc::Global;
 use std::process::Abort;

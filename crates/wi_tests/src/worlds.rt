@@ -191,7 +191,7 @@ fn expect_reaching(rt: &impl Abort, alloc: Global, asked: Asked<'_>, rows: &[(&s
     drop(last);
 }
 
-// A2 reaches itself and D4; C3 reaches itself, D4 and E5.
+/// A2 reaches itself and D4; C3 reaches itself, D4 and E5.
 #[test]
 fn cones_that_have_a_cell(rt: HostRuntime) {
     let mut cones = BTreeMap::new(rt.alloc());

@@ -75,8 +75,8 @@ module _ {X : Type 0} (vacant : X) where
     pub order : RoomsAreInOrder rooms
     pub only : VacantOnlyAt cells rooms
 
-  -- An edit of the changes' cells goes on, and each of them that gets something has a room. So what the rooms have can be exchanged
-  -- with what the changes bring.
+  -- An edit of the changes' cells goes on, and each of them that gets something has a room. So what the rooms have can
+  -- be exchanged with what the changes bring.
   pub record AreReadyFor (changes rooms : List (ℕ × X)) : Type 0 where
     pub edit : AreInEdit (keys_of changes) rooms
     pub room : All (HasRoomFor rooms) changes

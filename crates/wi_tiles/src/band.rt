@@ -27,8 +27,8 @@ pub(crate) struct Turn<'a, V> {
     pub before: usize,
     // Whether no bit between those that are to come has anything.
     pub whole: bool,
-    // The row and the column from which the walk goes on, and if more tiles of the row's band lie in the rectangle, all these, and
-    // how many of them lie left of the column.
+    // The row and the column from which the walk goes on, and if more tiles of the row's band lie in the rectangle, all
+    // these, and how many of them lie left of the column.
     pub row: u32,
     pub column: u32,
     pub tiles: Option<Tiles<'a, V>>,
@@ -47,8 +47,8 @@ pub(crate) fn tiles_in<V>(parts: &[(u32, Tile<V>)], area: Rect) -> &[(u32, Tile<
     &parts[low..high]
 }
 
-/// Turns to the first tile, in a band's rows from a row and a column on, that has something of a rectangle. The tiles before a
-/// first place lie left of the column.
+/// Turns to the first tile, in a band's rows from a row and a column on, that has something of a rectangle. The tiles
+/// before a first place lie left of the column.
 pub(crate) fn turn_beside<'a, V>(
     tiles: &'a [(u32, Tile<V>)],
     area: Rect,
@@ -98,8 +98,8 @@ pub(crate) fn turn_beside<'a, V>(
     None
 }
 
-/// The first of these tiles, from a place on, that has something in a line, in a rectangle's columns from a column on: its place,
-/// and the bits that have it.
+/// The first of these tiles, from a place on, that has something in a line, in a rectangle's columns from a column on:
+/// its place, and the bits that have it.
 fn next_tile<V>(
     tiles: &[(u32, Tile<V>)],
     area: Rect,

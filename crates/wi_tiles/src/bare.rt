@@ -14,8 +14,9 @@ use crate::sorted::place_from;
 use crate::tile::Tile;
 use wi_values::Rect;
 
-/// The row behind a row's band, and behind those below it in its page in which a rectangle has nothing: all, if none of the page's
-/// tiles has anything in its columns. It stands apart, so that a turn from one band to the next takes little.
+/// The row behind a row's band, and behind those below it in its page in which a rectangle has nothing: all, if none of
+/// the page's tiles has anything in its columns. It stands apart, so that a turn from one band to the next takes
+/// little.
 #[inline(never)]
 pub(crate) fn past_bare<V>(pages: &Pages<V>, area: Rect, row: u32) -> u32
     requires { row < rows }

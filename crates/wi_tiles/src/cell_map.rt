@@ -77,8 +77,9 @@ impl<V: Drop> CellMap<V> {
         self.pages.get(path_of(cell))
     }
 
-    /// Puts a value into a cell that has nothing, and answers whether it had nothing. If memory runs out, all is as before.
-    /// Logarithmic in the tiles of its 16 rows, beside moving up to 63 values; linear in these tiles where one is new.
+    /// Puts a value into a cell that has nothing, and answers whether it had nothing. If memory runs out, all is as
+    /// before. Logarithmic in the tiles of its 16 rows, beside moving up to 63 values; linear in these tiles where one
+    /// is new.
     pub fn put_new(&mut self, cell: Address, value: V) -> Result<bool, AllocError>
         ensures new { IfOk result (λ new. new ≡ not (is_some (get nat_cmp self.old cell))) }
         ensures entries { OnOk result (self.new.entries ≡ (if is_some (get nat_cmp self.old cell)
@@ -90,8 +91,8 @@ impl<V: Drop> CellMap<V> {
         Ok(new)
     }
 
-    /// Puts a value in the place of what a cell has, and gives that; a cell that has nothing gets nothing. Takes no memory.
-    /// Logarithmic in the tiles of its 16 rows, as `get`.
+    /// Puts a value in the place of what a cell has, and gives that; a cell that has nothing gets nothing. Takes no
+    /// memory. Logarithmic in the tiles of its 16 rows, as `get`.
     pub fn replace(&mut self, cell: Address, value: V) -> Option<V>
         ensures stood { result ≡ get nat_cmp self.old cell }
         ensures entries { self.new.entries
@@ -100,9 +101,10 @@ impl<V: Drop> CellMap<V> {
         self.pages.replace(path_of(cell), value)
     }
 
-    /// Takes away what a cell has, and gives that. Takes no memory. A tile that has nothing then goes, and 16 or 4,096 rows that have
-    /// nothing go where none before them, or none behind them, have anything. Logarithmic in the tiles of its 16 rows, beside moving up to
-    /// 63 values, and where the first rows go up to 255 others; linear in these tiles where one goes.
+    /// Takes away what a cell has, and gives that. Takes no memory. A tile that has nothing then goes, and 16 or 4,096
+    /// rows that have nothing go where none before them, or none behind them, have anything. Logarithmic in the tiles
+    /// of its 16 rows, beside moving up to 63 values, and where the first rows go up to 255 others; linear in these
+    /// tiles where one goes.
     pub fn remove(&mut self, cell: Address) -> Option<V>
         ensures stood { result ≡ get nat_cmp self.old cell }
         ensures entries { self.new.entries ≡ remove_entry (is_at (nat_cmp cell)) self.old.entries }
@@ -124,10 +126,10 @@ impl<V: Drop> CellMap<V> {
         self.occupied = 0;
     }
 
-    /// The first cell of a rectangle, in row-major order, at a cell or after it, that has something. One search among the tiles
-    /// of 16 rows for these, and if more than one of them lie in the rectangle, one step for each in each row up to it. Rows where
-    /// nothing stands are passed at once, and so are 4,096 rows where nothing has stood in its columns, nor in any with the same
-    /// remainder by 64.
+    /// The first cell of a rectangle, in row-major order, at a cell or after it, that has something. One search among
+    /// the tiles of 16 rows for these, and if more than one of them lie in the rectangle, one step for each in each row
+    /// up to it. Rows where nothing stands are passed at once, and so are 4,096 rows where nothing has stood in its
+    /// columns, nor in any with the same remainder by 64.
     pub fn next_in(&self, area: Rect, from: Address) -> Option<Address>
         ensures { result
             ≡ find (λ a. nat_le from a) (filter (is_within area) (keys_of self.now.entries)) }
@@ -138,17 +140,17 @@ impl<V: Drop> CellMap<V> {
         }
     }
 
-    /// What the cells of a rectangle have, with the cells, in row-major order, at a cell or after it. Takes no memory. Made in constant
-    /// time; a step among the bits of a tile for each cell, one search for each 16 rows, and where more than one of their tiles lie in
-    /// the rectangle, one step more for each tile of each row.
+    /// What the cells of a rectangle have, with the cells, in row-major order, at a cell or after it. Takes no memory.
+    /// Made in constant time; a step among the bits of a tile for each cell, one search for each 16 rows, and where
+    /// more than one of their tiles lie in the rectangle, one step more for each tile of each row.
     pub fn within(&self, area: Rect, from: Address) -> Within<'_, V>
         ensures { result ≡ filter (λ e. nat_le from e.0 && is_within area e.0) self.now.entries }
     {
         Within::new(&self.pages, area, from)
     }
 
-    /// The cell that `next_in` gives, with what it has, at the cost of `next_in`: one search among the tiles of 16 rows, for those
-    /// that aren't passed at once, and steps among these tiles.
+    /// The cell that `next_in` gives, with what it has, at the cost of `next_in`: one search among the tiles of 16
+    /// rows, for those that aren't passed at once, and steps among these tiles.
     pub fn first_in(&self, area: Rect, from: Address) -> Option<(Address, &V)>
         ensures cell { option_map (λ x. x.0) result
             ≡ find (λ a. nat_le from a) (filter (is_within area) (keys_of self.now.entries)) }
@@ -157,8 +159,8 @@ impl<V: Drop> CellMap<V> {
         found_from(&self.pages, area, from)
     }
 
-    /// What all cells have, with the cells, in row-major order. Takes no memory. Made in constant time; its steps cost as those of
-    /// `within`.
+    /// What all cells have, with the cells, in row-major order. Takes no memory. Made in constant time; its steps cost
+    /// as those of `within`.
     pub fn iter(&self) -> Within<'_, V>
         ensures entries { result ≡ self.now.entries }
         ensures sheet { All (λ e. e.0 < rows * columns) self.now.entries }

@@ -13,8 +13,8 @@ use crate::window::Window;
 use std::alloc::{AllocError, Global};
 use std::marker::Model;
 
-/// Bands of 16 rows, 256 of which are a page, from the first that has something to the last, and a bit for each column, by its
-/// remainder, in which a tile may have something. It is seen as its bands.
+/// Bands of 16 rows, 256 of which are a page, from the first that has something to the last, and a bit for each column,
+/// by its remainder, in which a tile may have something. It is seen as its bands.
 #[derive(Drop)]
 pub(crate) struct Page<V> {
     bands: Window<Band<V>>,

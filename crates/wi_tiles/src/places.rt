@@ -27,7 +27,8 @@ pub(crate) trait Places<V> {
         requires { place < size }
         ensures { option_copied result ≡ at self.now place };
 
-    /// Puts a value where nothing stands, and answers whether nothing stood. If memory runs out, each place has what it had.
+    /// Puts a value where nothing stands, and answers whether nothing stood. If memory runs out, each place has what it
+    /// had.
     fn put_new(&mut self, place: u64, value: V, alloc: Global) -> Result<bool, AllocError>
         requires { place < size }
         ensures new { IfOk result (λ new. new ≡ not (is_some (at self.old place))) }

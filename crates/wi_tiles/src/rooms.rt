@@ -1,6 +1,6 @@
-//! Rooms: cells of a map with something, or vacant. An edit first makes a vacant room in each of its cells that gets something
-//! and has none. Then it exchanges what is in the rooms, which takes no memory and can be taken back. At the end the vacant
-//! rooms go.
+//! Rooms: cells of a map with something, or vacant. An edit first makes a vacant room in each of its cells that gets
+//! something and has none. Then it exchanges what is in the rooms, which takes no memory and can be taken back. At the
+//! end the vacant rooms go.
 
 ghost use Rattle.std.specs.Prelude.{◌≡◌, ◌≢◌, ◌+◌, ◌⊎◌, ℕ, Some, None, length, IsTrue, OnOk, OnErr, ◌↔◌};
 ghost use Rattle.std.specs.Int.{from_bool};
@@ -33,8 +33,8 @@ pub fn make_room<V: MayBeVacant + Drop>(
     Ok(())
 }
 
-/// Makes a vacant room in each cell that gets something and has none. One search for each cell that gets something. If memory
-/// runs out, the rooms made so far stay.
+/// Makes a vacant room in each cell that gets something and has none. One search for each cell that gets something. If
+/// memory runs out, the rooms made so far stay.
 pub fn make_rooms<V: MayBeVacant + Drop>(
     rooms: &mut CellMap<V>,
     changes: &[(Address, V)],
@@ -72,8 +72,8 @@ fn exchange<V: MayBeVacant + Drop>(rooms: &mut CellMap<V>, at: Address, new: &mu
     }
 }
 
-/// Exchanges what the rooms have with what the changes bring, one after another. Answers how many cells have something then;
-/// `occupied` is how many had before. Takes no memory. One search for each change.
+/// Exchanges what the rooms have with what the changes bring, one after another. Answers how many cells have something
+/// then; `occupied` is how many had before. Takes no memory. One search for each change.
 pub fn exchange_all<V: MayBeVacant + Drop>(
     rooms: &mut CellMap<V>,
     changes: &mut [(Address, V)],
@@ -96,7 +96,8 @@ pub fn exchange_all<V: MayBeVacant + Drop>(
     occupied
 }
 
-/// Exchanges the same, the last first: what `exchange_all` did is taken back. Takes no memory. One search for each change.
+/// Exchanges the same, the last first: what `exchange_all` did is taken back. Takes no memory. One search for each
+/// change.
 pub fn exchange_back<V: MayBeVacant + Drop>(rooms: &mut CellMap<V>, changes: &mut [(Address, V)])
     requires { AreReadyFor V.vacant changes.old rooms.old.entries }
     ensures after { (c : ℕ) → held_at V.vacant rooms.new.entries c
@@ -144,8 +145,8 @@ fn sweep_each<V: MayBeVacant + Drop>(rooms: &mut CellMap<V>, changes: &[(Address
     }
 }
 
-/// Takes away the vacant rooms; `occupied` is how many cells have something. No search where no room is vacant; or else one for
-/// each change, and one more for each room that goes.
+/// Takes away the vacant rooms; `occupied` is how many cells have something. No search where no room is vacant; or else
+/// one for each change, and one more for each room that goes.
 pub fn sweep<V: MayBeVacant + Drop>(rooms: &mut CellMap<V>, changes: &[(Address, V)], occupied: u64)
     requires edit { AreInEdit V.vacant (keys_of changes.now) rooms.old.entries }
     requires occupied { occupied ≡ length (taken V.is_taken rooms.old.entries) }

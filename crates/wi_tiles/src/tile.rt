@@ -89,8 +89,8 @@ impl<V> Tile<V> {
         &self.values[place]
     }
 
-    /// Takes room for 16 values, as many as a column of a tile has, where the four that there was room for at first are there. If memory
-    /// runs out, all is as before.
+    /// Takes room for 16 values, as many as a column of a tile has, where the four that there was room for at first are
+    /// there. If memory runs out, all is as before.
     fn widen(&mut self) -> Result<(), AllocError>
         ensures { self.new ≡ self.old }
     {
@@ -207,7 +207,8 @@ fn insert_value<V>(values: &mut Vec<V>, place: usize, value: V) -> Result<(), Al
     }
 }
 
-/// How many ones stand below a bit, of so many in all. Where none stands behind it, as in a tile that is filled in order, they aren't counted.
+/// How many ones stand below a bit, of so many in all. Where none stands behind it, as in a tile that is filled in
+/// order, they aren't counted.
 fn place_of(bits: u64, count: usize, bit: u32) -> usize
     requires within { bit < 64 }
     requires count { count ≡ count_ones bits }

@@ -12,8 +12,9 @@ use std::marker::Model;
 /// How many parts there may be.
 const SPAN: u64 = 256;
 
-/// Parts found by the first digit of a path. There are none before the first, and none behind the last, so that a lone part
-/// costs the same wherever it stands. What has a window keeps it trimmed: its first part and its last have something.
+/// Parts found by the first digit of a path. There are none before the first, and none behind the last, so that a lone
+/// part costs the same wherever it stands. What has a window keeps it trimmed: its first part and its last have
+/// something.
 #[derive(Drop)]
 pub(crate) struct Window<T> {
     first: usize,
@@ -95,7 +96,8 @@ impl<T: Drop> Window<T> {
         self.parts.clear();
     }
 
-    /// Puts a value where nothing stands, and answers whether nothing stood. If memory runs out, each path has what it had.
+    /// Puts a value where nothing stands, and answers whether nothing stood. If memory runs out, each path has what it
+    /// had.
     pub(crate) fn put_new<V: Drop>(
         &mut self,
         path: u64,

@@ -16,7 +16,8 @@ use crate::tile::Tile;
 use std::marker::Model;
 use wi_values::{Address, Rect};
 
-/// What the cells of a rectangle have, with the cells, in row-major order. It is seen as the entries that are still to come.
+/// What the cells of a rectangle have, with the cells, in row-major order. It is seen as the entries that are still to
+/// come.
 #[derive(Drop)]
 pub struct Within<'a, V> {
     pages: &'a Pages<V>,
@@ -28,8 +29,8 @@ pub struct Within<'a, V> {
     // Whether no bit between those has anything, and if so, how many before them have something.
     whole: bool,
     before: usize,
-    // The row and the column from which the walk goes on behind it, and if more tiles of the row's band lie in the rectangle, all
-    // these, and how many of them lie left of the column.
+    // The row and the column from which the walk goes on behind it, and if more tiles of the row's band lie in the
+    // rectangle, all these, and how many of them lie left of the column.
     row: u32,
     column: u32,
     tiles: Option<Tiles<'a, V>>,
@@ -123,8 +124,8 @@ impl<'a, V> Iterator for Within<'a, V> {
 
     ghost remaining = { λ s. at_most (length s) };
 
-    /// A step among the bits of a tile for each cell, and one search for each 16 rows; and where more than one of their tiles lie in
-    /// the rectangle, one step more for each tile of each row.
+    /// A step among the bits of a tile for each cell, and one search for each 16 rows; and where more than one of their
+    /// tiles lie in the rectangle, one step more for each tile of each row.
     fn next(&mut self) -> Option<(Address, &'a V)> {
         match first_left(self.tile, self.left, self.before, self.whole) {
             Some(found) => {
@@ -137,8 +138,8 @@ impl<'a, V> Iterator for Within<'a, V> {
     }
 }
 
-/// The first of the bits that are left of a tile, how many before it have something, and what it has; nothing is left where there
-/// is no tile.
+/// The first of the bits that are left of a tile, how many before it have something, and what it has; nothing is left
+/// where there is no tile.
 fn first_left<V>(
     tile: Option<&Tile<V>>,
     left: u64,

@@ -37,8 +37,8 @@ pub fn divide(dividend: Fraction, divisor: Fraction) -> Result<Fraction, ErrorKi
     number_or_error(dividend.checked_div(divisor))
 }
 
-/// The power; `BadNumber` where the exponent isn't whole or the power doesn't fit, `DivisionByZero` for a negative power
-/// of 0.
+/// The power; `BadNumber` where the exponent isn't whole or the power doesn't fit, `DivisionByZero` for a negative
+/// power of 0.
 pub(crate) fn raise(base: Fraction, exponent: Fraction) -> Result<Fraction, ErrorKind>
     ensures { result ≡ exponentiation base exponent }
 {

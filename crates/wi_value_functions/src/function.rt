@@ -90,8 +90,8 @@ pub enum FoldFunction {
     Sum,
 }
 
-/// A function that looks cells up: one that is sought or stands at a place, those that meet a criterion, or those of several
-/// references place by place.
+/// A function that looks cells up: one that is sought or stands at a place, those that meet a criterion, or those of
+/// several references place by place.
 #[derive(Clone, Copy)]
 pub enum LookupFunction {
     CountIf,

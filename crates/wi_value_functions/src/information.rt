@@ -88,8 +88,8 @@ pub(crate) fn na_value() -> Value
     Value::Fault(ErrorKind::NotAvailable)
 }
 
-/// VALUE: a Number itself, a Text that spells a number that Number, an error itself; anything else is `BadValue`. Takes time
-/// in proportion to the text.
+/// VALUE: a Number itself, a Text that spells a number that Number, an error itself; anything else is `BadValue`. Takes
+/// time in proportion to the text.
 pub(crate) fn value_value(value: &Value) -> Value
     ensures { result ≡ value_value value.now }
 {

@@ -1,5 +1,5 @@
-//! Functions whose arguments are values, all functions by their names, and what operators and other functions share with
-//! these.
+//! Functions whose arguments are values, all functions by their names, and what operators and other functions share
+//! with these.
 #![tactic(auto)]
 
 mod arithmetic;

@@ -21,8 +21,8 @@ pub(crate) fn int_value(n: &Value) -> Value
     }
 }
 
-/// ROUND, ROUNDUP, ROUNDDOWN and TRUNC, by the mode of each: the number rounded at so many places. With more than 38 places
-/// before or after the point it is `BadNumber`, as where a step doesn't fit.
+/// ROUND, ROUNDUP, ROUNDDOWN and TRUNC, by the mode of each: the number rounded at so many places. With more than 38
+/// places before or after the point it is `BadNumber`, as where a step doesn't fit.
 pub(crate) fn round_value(mode: Mode, n: &Value, places: &Value) -> Value
     ensures { result ≡ round_value mode n.now places.now }
 {

@@ -96,8 +96,8 @@ static ROWS: [Row; 51] = [
     row!("VLOOKUP", 3, Some(4), References(Lookup(VLookup))),
 ];
 
-/// The function that a call with that name, in capitals, and so many parameters is a call of: `UnknownName` where none has
-/// the name, else `BadValue` where it doesn't take so many. Six comparisons of names at most.
+/// The function that a call with that name, in capitals, and so many parameters is a call of: `UnknownName` where none
+/// has the name, else `BadValue` where it doesn't take so many. Six comparisons of names at most.
 pub fn function_for(name: &str, count: usize) -> Result<Function, ErrorKind>
     ensures found { IfOk result (λ f. (args : List Argument) → length args ≡ count
         → call_value name.now args ≡ applied_to_arguments f args) }
@@ -114,8 +114,8 @@ pub fn function_for(name: &str, count: usize) -> Result<Function, ErrorKind>
     }
 }
 
-/// The row with that name, if one has it. Unlike a slice's own, the search ends where the names are equal: of at most six
-/// comparisons IF takes two.
+/// The row with that name, if one has it. Unlike a slice's own, the search ends where the names are equal: of at most
+/// six comparisons IF takes two.
 fn row_of(name: &str) -> Option<&'static Row>
     ensures some { IfSome result (λ row. function_named name.now ≡ Some (function_of row.now)) }
     ensures none { IfNone result (function_named name.now ≡ None) }
@@ -141,8 +141,8 @@ fn rows() -> &'static [Row]
     &ROWS
 }
 
-/// The order of two names, as texts have it. Names mostly differ in one of their first bytes, so a comparison byte by byte,
-/// which ends there, is shorter than one that reads many bytes at once.
+/// The order of two names, as texts have it. Names mostly differ in one of their first bytes, so a comparison byte by
+/// byte, which ends there, is shorter than one that reads many bytes at once.
 fn compare(name: &str, other: &str) -> Ordering
     ensures { result ≡ slice_cmp nat_cmp name.now other.now }
 {

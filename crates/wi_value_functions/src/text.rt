@@ -1,5 +1,5 @@
-//! Texts as values, and the text functions of OpenFormula. Characters are Unicode scalar values. A function fails only where
-//! memory for a text that it makes is wanting.
+//! Texts as values, and the text functions of OpenFormula. Characters are Unicode scalar values. A function fails only
+//! where memory for a text that it makes is wanting.
 
 ghost use Rattle.std.specs.Prelude.{◌≡◌, string_bytes};
 ghost use Rattle.wi_standard_functions.specs.Arithmetic.{limited_text};

@@ -1,4 +1,5 @@
--- Lists of replacements, and what they are as a map from addresses to values. A replacement by Empty is an entry like others.
+-- Lists of replacements, and what they are as a map from addresses to values. A replacement by Empty is an entry like
+-- others.
 use Rattle.std.specs.Prelude.{◌==◌, ℕ, Bool, List, [], ◌∷◌, map, Option, Some, None, if◌then◌else◌}
 use Rattle.std.specs.Cmp.Lexicographic.{pointwise}
 use Rattle.std.specs.List.{list_any}

@@ -87,8 +87,8 @@ impl Address {
         (self.place % u64::from(COLUMNS)) as u32
     }
 
-    /// The cell with these column letters, of either case, and this row number, which is counted from 1; none outside the
-    /// sheet. There may be any number of letters and digits.
+    /// The cell with these column letters, of either case, and this row number, which is counted from 1; none outside
+    /// the sheet. There may be any number of letters and digits.
     #[tactic(auto, unfolding(crate::specs::AddressReading::address_at))]
     pub fn from_parts(letters: &[u8], digits: &[u8]) -> Option<Address>
         ensures { result ≡ address_at letters.now digits.now }

@@ -6,8 +6,8 @@ ghost use Rattle.wi_values.specs.Inner.Cells.{sooner};
 
 use crate::address::Address;
 
-/// Whether cells stand in row-major order, each once. The work grows with their count, and ends at the first that does not
-/// follow the one before it. It takes no memory.
+/// Whether cells stand in row-major order, each once. The work grows with their count, and ends at the first that does
+/// not follow the one before it. It takes no memory.
 pub fn rise(cells: &[Address]) -> bool
     ensures { IsTrue result ↔ IsStrictlyIncreasing cells.now }
 {

@@ -7,8 +7,8 @@ ghost use Rattle.wi_worlds.specs.Inner.Picked.{replacement_at};
 
 use wi_values::{Address, Replacement, Value};
 
-/// The value that stands in the place of a cell's content, if one of the replacements, which stand in row-major order, is of
-/// the cell. The work grows with the logarithm of their count.
+/// The value that stands in the place of a cell's content, if one of the replacements, which stand in row-major order,
+/// is of the cell. The work grows with the logarithm of their count.
 pub fn value_at(replacements: &[Replacement], at: Address) -> Option<&Value>
     requires { IsInOrder replacements.now }
     ensures { option_copied result ≡ replaced replacements.now at }

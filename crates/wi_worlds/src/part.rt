@@ -24,13 +24,14 @@ pub(crate) struct Part {
 /// Where there are at least so many replacements for each cell, the cells are searched for among the replacements.
 const MANY: usize = 4;
 
-/// Whether a search for each of the cells among the replacements is less work than one for each replacement among the cells.
+/// Whether a search for each of the cells among the replacements is less work than one for each replacement among the
+/// cells.
 fn cells_lead(replacements: &[Replacement], cells: &[Address]) -> bool {
     cells.len() < replacements.len() / MANY
 }
 
-/// The replacements that are of one of the cells, compared with the last part. The work grows with the count of the fewer, times
-/// the logarithm of that of the others.
+/// The replacements that are of one of the cells, compared with the last part. The work grows with the count of the
+/// fewer, times the logarithm of that of the others.
 #[inline(always)]
 pub(crate) fn part_of(replacements: &[Replacement], cells: &[Address], last: &[Replacement]) -> Part
     requires order { IsInOrder replacements.now }

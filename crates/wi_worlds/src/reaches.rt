@@ -61,16 +61,16 @@ impl Reaches {
         self.known.as_slice().is_empty() && is_nothing(&self.reached)
     }
 
-    /// Whether it is known of a cell which cells reach it. The work grows with the logarithm of the count of those that are
-    /// known.
+    /// Whether it is known of a cell which cells reach it. The work grows with the logarithm of the count of those that
+    /// are known.
     pub fn knows(&self, at: Address) -> bool
         ensures { result ≡ is_known self.now at }
     {
         has_next(self.known.as_slice(), &mut 0, at)
     }
 
-    /// Whether it is known of all replaced cells. The work for each is a comparison where those that are known stand in the
-    /// same order with none between, and else a search.
+    /// Whether it is known of all replaced cells. The work for each is a comparison where those that are known stand in
+    /// the same order with none between, and else a search.
     #[inline(always)]
     pub fn knows_all(&self, world: &World) -> bool
         ensures { result ≡ list_all (λ r. is_known self.now r.at) world.now }
@@ -78,8 +78,8 @@ impl Reaches {
         have_all(self.known.as_slice(), world.replacements())
     }
 
-    /// Makes a cell known, with the cells that reach it. If memory runs out, the same are known as before, and of those that
-    /// reach this one some may be recorded. The work for each is a look-up.
+    /// Makes a cell known, with the cells that reach it. If memory runs out, the same are known as before, and of those
+    /// that reach this one some may be recorded. The work for each is a look-up.
     pub fn add(&mut self, at: Address, cone: &[Address]) -> Result<(), AllocError>
         ensures known { OnOk result ((a : ℕ) → is_known self.new a
             ≡ (at == a || is_known self.old a)) }

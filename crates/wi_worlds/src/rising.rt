@@ -52,8 +52,8 @@ impl RisingCells {
         &self.cells
     }
 
-    /// Puts a cell in where it isn't there. If memory runs out, all is as before. The work grows with the count of the cells
-    /// behind it.
+    /// Puts a cell in where it isn't there. If memory runs out, all is as before. The work grows with the count of the
+    /// cells behind it.
     pub(crate) fn insert(&mut self, cell: Address) -> Result<(), AllocError>
         ensures has { OnOk result ((c : ℕ)
             → is_one_of self.new c ≡ (cell == c || is_one_of self.old c)) }
@@ -69,8 +69,8 @@ impl RisingCells {
     }
 }
 
-/// Whether a cell is one of these, which stand in row-major order. Where it stands at the likely place it isn't searched for. The
-/// likely place becomes that of the next cell in order.
+/// Whether a cell is one of these, which stand in row-major order. Where it stands at the likely place it isn't
+/// searched for. The likely place becomes that of the next cell in order.
 #[inline(always)]
 pub(crate) fn has_next(cells: &[Address], likely: &mut usize, cell: Address) -> bool
     requires { IsStrictlyIncreasing cells.now }

@@ -7,7 +7,8 @@ use Rattle.wi_cli.specs.Inner.CsvCommand.{CsvLine}
 use Rattle.wi_cli.specs.Inner.Data.{IsCsv}
 use Rattle.wi_cli.specs.Inner.Spelling.{IsCommandOf}
 
--- of a line that asks for these data lines, if for any, is UTF-8 or not, and has this command, if it has one, where it asks for none
+-- of a line that asks for these data lines, if for any, is UTF-8 or not, and has this command, if it has one, where it
+-- asks for none
 abbrev pub IsAsked : Option CsvLine → Bool → Option Call → Line → Type 0
 IsAsked asked text o read.Passed = (asked ≡ None) × (o ≡ None)
 IsAsked asked text o (read.Csv csv) = IsCsv asked (Some csv) × (csv.is_text ≡ text)

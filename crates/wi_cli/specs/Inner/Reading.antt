@@ -28,7 +28,8 @@ pub record HasStopped (fault : RunFault) (has_failed : Bool) (capacity : ℕ) : 
 abbrev pub ReadsOn : {X : Type 0} → Result X RunFault → Bool → ℕ → Type 0
 ReadsOn r has_failed capacity = MatchResult r (λ _. CanRead has_failed capacity) (λ e. HasStopped e has_failed capacity)
 
--- The bytes in the buffer were taken up to the first LF, and with it, or all of them. The front that is kept goes on with them.
+-- The bytes in the buffer were taken up to the first LF, and with it, or all of them. The front that is kept goes on
+-- with them.
 pub record TookPart (whole : Bool) (buffer buffer' line line' : List ℕ) : Type 0 where
   pub part : List ℕ
   pub no_lf : is_whole part ≡ false

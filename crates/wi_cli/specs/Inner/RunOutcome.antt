@@ -31,8 +31,8 @@ limited ls = take max_lines ls
 
 -- From the bytes taken to the bytes written: all commands are answered; or none, as nothing was read; or those that
 -- were complete when the source failed, or before one line more than allowed; or, where the sink failed, those up to
--- one whose reply may be cut short. There a last line that lacks its LF, or data lines, counts only where the source has
--- nothing left, and no more lines than allowed have come.
+-- one whose reply may be cut short. There a last line that lacks its LF, or data lines, counts only where the source
+-- has nothing left, and no more lines than allowed have come.
 abbrev pub RunOutcome : Result (Unit {0}) RunFault → Option (List ℕ) → State → State → List ℕ → List ℕ → Type 0
 RunOutcome (Ok _) left s t input out = (length (raw_lines input) ≤ max_lines) × WritesReplies s (all_commands input) out t
 RunOutcome (Err Memory) left s t input out = (input ≡ []) × (out ≡ []) × (t ≡ s)

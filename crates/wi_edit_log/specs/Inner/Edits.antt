@@ -31,8 +31,8 @@ pub record IsInRun (es : List Edit) (i : ℕ) (e : Edit) : Type 0 where
 abbrev pub AreInRuns : List Edit → Type 0
 AreInRuns es = (i : ℕ) (d : Edit) → i < length es → IsInRun es i (slice_index_or es i d)
 
--- The last n edits up to the place i, the one there among them, named narrow rectangles alone. If n is 0, the one there named a
--- wider one.
+-- The last n edits up to the place i, the one there among them, named narrow rectangles alone. If n is 0, the one there
+-- named a wider one.
 pub record IsCount (es : List Edit) (i n : ℕ) : Type 0 where
   pub narrow : (k : ℕ) (d : Edit) → i + 1 ≤ k + n → k < i + 1 → are_narrow (slice_index_or es k d).named ≡ true
   pub wide : (d : Edit) → n ≡ 0 → are_narrow (slice_index_or es i d).named ≡ false

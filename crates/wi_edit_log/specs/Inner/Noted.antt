@@ -69,12 +69,13 @@ is_wanted_noted_stale wanted notes session since a = is_within_one wanted a && i
 abbrev pub NotesMore : (ℕ → Bool) → ℕ → ℕ → List (ℕ × Last) → List (ℕ × Last) → Type 0
 NotesMore test session n old new = (a : ℕ) → last_of new a ≡ (if test a then Some (last_after (last_of old a) session n) else last_of old a)
 
--- the edit e is noted, after which the log is n long: of each cell that it names if all its rectangles are narrow, else of none
+-- the edit e is noted, after which the log is n long: of each cell that it names if all its rectangles are narrow, else
+-- of none
 abbrev pub NotesEdit : Edit → ℕ → List (ℕ × Last) → List (ℕ × Last) → Type 0
 NotesEdit e n old new = NotesMore (λ a. are_narrow e.named && is_within_one e.named a) e.session n old new
 
--- The notes tell of the first edits, as many as are counted, which cells those of narrow rectangles by others than a session
--- named. The counts are those of these edits.
+-- The notes tell of the first edits, as many as are counted, which cells those of narrow rectangles by others than a
+-- session named. The counts are those of these edits.
 pub record AreNoted (es : List Edit) (counts : List ℕ) (notes : List (ℕ × Last)) : Type 0 where
   pub within : length counts ≤ length es
   pub by_notes : (a session since : ℕ) → is_named_narrowly (drop since (take (length counts) es)) session a ≡ is_noted_stale (last_of notes a) session since

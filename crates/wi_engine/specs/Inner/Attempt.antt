@@ -44,8 +44,8 @@ IsLacking s w f (WhatIf c pairs) = what_if_found f c (map addresses (map pair_of
 abbrev pub lacks_cell : Sheet → List Replacement → Findings → ℕ → Bool
 lacks_cell s w f a = has_formula (content_of (put_all s w) a) && is_none (found_value f a)
 
--- how many of the values on which a tree's value rests were not found: of cells with a formula that it reads as the sheet
--- stands, and of what-ifs
+-- how many of the values on which a tree's value rests were not found: of cells with a formula that it reads as the
+-- sheet stands, and of what-ifs
 abbrev pub lacking : Sheet → Tree → Findings → ℕ
 lacking s t f =
     length (filter (λ c. is_none (found_value f c)) (formulas_read_here s t))

@@ -27,8 +27,8 @@ use Rattle.wi_engine.specs.declared.frame.Waiting.TheVariants.{Nothing, Cells, W
 abbrev pub case_at : Key → Case
 case_at k = (k.cell, k.world)
 
--- A cell that may be valued: it is not circular, and the memory makes keys for it if it has a formula. (One that serves a single
--- question may make them for the cells alone that the question reaches.)
+-- A cell that may be valued: it is not circular, and the memory makes keys for it if it has a formula. (One that serves
+-- a single question may make them for the cells alone that the question reaches.)
 pub record MayBeRead (s : Sheet) (m : MemoState) (a : ℕ) : Type 0 where
   pub open_cell : circular s a ≡ false
   pub covered : has_formula (content_of s a) ≡ true → m.covers a ≡ true
@@ -99,7 +99,8 @@ is_of_cell Nothing = false
 is_of_cell (Cells a others) = true
 is_of_cell (WhatIf a pairs) = false
 
--- the key is that of the cell whose value is waited for, under these replacements; of what a what-if rests on it says nothing
+-- the key is that of the cell whose value is waited for, under these replacements; of what a what-if rests on it says
+-- nothing
 abbrev pub IsAwaited : Sheet → List Replacement → Waiting → Key → Type 0
 IsAwaited s w Nothing k = Unit {0}
 IsAwaited s w (Cells a others) k = (k.cell ≡ a) × (k.world ≡ reaching s a w)
@@ -132,7 +133,8 @@ waits (WhatIf a pairs) = 1
 abbrev pub lacks : Sheet → Key → Findings → ℕ
 lacks s k f = of_formula (content_of (put_all s k.world) k.cell) 0 (λ t. lacking s t f)
 
--- how many restarts a frame's formula may still ask for: one for each value that it lacks, none for one that is waited for
+-- how many restarts a frame's formula may still ask for: one for each value that it lacks, none for one that is waited
+-- for
 abbrev pub spare : Sheet → Frame → ℕ
 spare s f = lacks s f.key f.found - waits f.waiting
 

@@ -8,8 +8,8 @@ use Rattle.wi_engine.specs.Inner.MemoState.{MemoState, IsComplete}
 use Rattle.wi_engine.specs.Inner.Saving.{TakesPlaces, GivesUpWhenFull}
 use Rattle.wi_engine.specs.Inner.Spends.{IsSameBeside}
 
--- A value is remembered for a key, or memory ran out: what is remembered then was before, or is that value; it takes one place at
--- most, and nothing is evicted while there is room.
+-- A value is remembered for a key, or memory ran out: what is remembered then was before, or is that value; it takes
+-- one place at most, and nothing is evicted while there is room.
 pub record Keeps (old new : MemoState) (k : Key) (v : Value) : Type 0 where
   pub sheet : new.sheet ≡ old.sheet
   pub same : IsSameBeside old new
@@ -18,8 +18,8 @@ pub record Keeps (old new : MemoState) (k : Key) (v : Value) : Type 0 where
   pub places : TakesPlaces old new 0 1
   pub gives_up : GivesUpWhenFull old new
 
--- It is remembered: it is found. Where a place was free, it is kept for longer too, all that was kept still is, and it takes one place
--- unless it was kept already.
+-- It is remembered: it is found. Where a place was free, it is kept for longer too, all that was kept still is, and it
+-- takes one place unless it was kept already.
 pub record HasFound (old new : MemoState) (k : Key) : Type 0 where
   pub found : (c : ℕ) (w : List Replacement) → new.found c w ≡ (old.found c w || same_case (k.cell, k.world) (c, w))
   pub kept : 1 ≤ old.space → (c : ℕ) (w : List Replacement) → new.kept c w ≡ (old.kept c w || same_case (k.cell, k.world) (c, w))

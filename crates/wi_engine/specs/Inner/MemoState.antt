@@ -12,7 +12,8 @@ pub record MemoState : Type 0 where
   pub sheet : Sheet
   -- the cells for which keys are made: all of them, or those that the question reaches
   pub covers : ℕ → Bool
-  -- A part of a cell's key: values under its other generations are stale. Edits raise it; no question does (`IsSameBeside`).
+  -- A part of a cell's key: values under its other generations are stale. Edits raise it; no question does
+  -- (`IsSameBeside`).
   pub generation : ℕ → ℕ
   -- the value that is remembered of a cell under replacements; unless it is found, it may be forgotten
   pub known : ℕ → List Replacement → Option Value
@@ -27,8 +28,8 @@ pub record MemoState : Type 0 where
   pub space : ℕ
   -- and how many there are in all
   pub capacity : ℕ
-  -- The number of the last edit. That no generation is past it says who makes the memory (`past` of `IsKeepingRight`, in
-  -- `wi_propagate`); here it is only left as it is.
+  -- The number of the last edit. That no generation is past it says who makes the memory (`past` of `IsKeepingRight`,
+  -- in `wi_propagate`); here it is only left as it is.
   pub latest : ℕ
 
 -- each value that is remembered is the cell's

@@ -1,5 +1,5 @@
--- In what order the values of cells are found before that of a cell, the root, which rests on them where some cells, the inputs,
--- are replaced.
+-- In what order the values of cells are found before that of a cell, the root, which rests on them where some cells,
+-- the inputs, are replaced.
 use Rattle.std.specs.Prelude.{◌≡◌, ◌==◌, ◌&&◌, ◌||◌, ℕ, ◌+◌, ◌-◌, ◌^◌, ◌≤◌, Bool, not, true, false, List, [], ◌∷◌, ◌++◌, map, All, Option, Some, None, is_some, Result, Ok, IfOk, IfSome, ◌⊎◌, Contains}
 use Rattle.std.specs.List.{list_any}
 use Rattle.std.specs.declared.alloc.AllocError.{AllocError}
@@ -27,14 +27,14 @@ use Rattle.wi_engine.specs.declared.planning.Reading.{Reading}
 abbrev pub planned_cells : List Planned → List ℕ
 planned_cells ps = map (λ p. p.at) ps
 
--- A cell's formula rests on inputs and on cells that stand before it: each cell with a formula that it reads is one of these, and it
--- has no what-ifs.
+-- A cell's formula rests on inputs and on cells that stand before it: each cell with a formula that it reads is one of
+-- these, and it has no what-ifs.
 pub record RestsOnEarlier (s : Sheet) (inputs front : List ℕ) (c : ℕ) : Type 0 where
   pub cells : (d : ℕ) → content_reads (content_of s c) d ≡ true → has_formula (content_of s d) ≡ true → is_one_of inputs d ≡ false → is_one_of front d ≡ true
   pub what_ifs : (t : Tree) → content_of s c ≡ Some (Formula t) → what_ifs_of t ≡ []
 
--- A cell may stand between these of a plan: it has a formula, is no input and not the root, stands there once, and is read by the
--- root or by a cell behind it. Unless its value is given, its formula rests on cells before it.
+-- A cell may stand between these of a plan: it has a formula, is no input and not the root, stands there once, and is
+-- read by the root or by a cell behind it. Unless its value is given, its formula rests on cells before it.
 pub record MayBePlanned (s : Sheet) (inputs : List ℕ) (root : ℕ) (front : List ℕ) (p : Planned) (back : List ℕ) : Type 0 where
   pub formula : has_formula (content_of s p.at) ≡ true
   pub kept : is_one_of inputs p.at ≡ false
@@ -98,8 +98,9 @@ abbrev pub CountsCell : Bool → Counts → Counts → Type 0
 CountsCell true before after = after ≡ before
 CountsCell false before after = CountsOne before after
 
--- What is so where a plan was followed under replacements, as far as memory sufficed: its root's value was found by one evaluation or
--- more, or a value that was to be given wasn't there. No more was counted than the cases cost that the root demands.
+-- What is so where a plan was followed under replacements, as far as memory sufficed: its root's value was found by one
+-- evaluation or more, or a value that was to be given wasn't there. No more was counted than the cases cost that the
+-- root demands.
 pub record Follows (s : Sheet) (w : List Replacement) (root : ℕ) (before after : Counts) (r : Result (Option Value) AllocError) : Type 0 where
   pub value : IfOk r (λ o. IfSome o (λ v. v ≡ cell_value (put_all s w) root))
   pub none : r ≡ Ok None → after ≡ before
@@ -128,11 +129,13 @@ pub record RestsOnSettled (s : Sheet) (settled : ℕ → Bool) (c : ℕ) : Type 
   pub cells : (d : ℕ) → content_reads (content_of s c) d ≡ true → has_formula (content_of s d) ≡ true → settled d ≡ true
   pub what_ifs : (t : Tree) → content_of s c ≡ Some (Formula t) → what_ifs_of t ≡ []
 
--- a cell is the root, or stands behind another one in a plan: it is one of all cells, is another and doesn't stand before
+-- a cell is the root, or stands behind another one in a plan: it is one of all cells, is another and doesn't stand
+-- before
 abbrev pub comes_later : ℕ → (ℕ → Bool) → (ℕ → Bool) → ℕ → ℕ → Bool
 comes_later root all settled c reader = reader == root || (all reader && not (settled reader) && not (c == reader))
 
--- A cell may be the next of a plan, by all its cells, and by those that are settled then: the inputs, and the cells before it.
+-- A cell may be the next of a plan, by all its cells, and by those that are settled then: the inputs, and the cells
+-- before it.
 pub record MayBeNext (s : Sheet) (root : ℕ) (all settled : ℕ → Bool) (p : Planned) : Type 0 where
   pub formula : has_formula (content_of s p.at) ≡ true
   pub once : settled p.at ≡ false

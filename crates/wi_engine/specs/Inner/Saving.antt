@@ -17,8 +17,9 @@ not_kept m ks = left (λ k. 1) m.kept ks
 abbrev pub KeepsFound : MemoState → Type 0
 KeepsFound m = (c : ℕ) (w : List Replacement) → m.found c w ≡ true → m.kept c w ≡ true
 
--- This holds of each closed list of cases that has what it is to have, where all that was found is kept and there is room
--- for those of the list that are not. Where `P` leaves its list out, one such list is enough: it only says that there is room.
+-- This holds of each closed list of cases that has what it is to have, where all that was found is kept and there is
+-- room for those of the list that are not. Where `P` leaves its list out, one such list is enough: it only says that
+-- there is room.
 abbrev pub WhereSpace : Sheet → (List Case → Type 0) → MemoState → (List Case → Type 0) → Type 0
 WhereSpace s Has m P = (ks : List Case) → IsClosed s ks → Has ks → KeepsFound m → not_kept m ks ≤ m.space → P ks
 
@@ -26,9 +27,10 @@ WhereSpace s Has m P = (ks : List Case) → IsClosed s ks → Has ks → KeepsFo
 abbrev pub vacant : MemoState → List Key → List Key
 vacant m ks = filter (λ k. not (m.stands k)) ks
 
--- Each value that was counted took one place at most: a free one, or that of an evicted entry, stale ones included. So where e
--- values were counted and f free places filled, at most e - f entries were evicted. It is said of any keys without repetition,
--- by how many of them are vacant before and after: `vacant` counts keys, and `space` places of the memory.
+-- Each value that was counted took one place at most: a free one, or that of an evicted entry, stale ones included. So
+-- where e values were counted and f free places filled, at most e - f entries were evicted. It is said of any keys
+-- without repetition, by how many of them are vacant before and after: `vacant` counts keys, and `space` places of the
+-- memory.
 abbrev pub TakesPlaces : MemoState → MemoState → ℕ → ℕ → Type 0
 TakesPlaces old new before after = (ks : List Key) → IsDistinct same_key ks → length (vacant new ks) + (old.space + before) ≤ length (vacant old ks) + (new.space + after)
 
@@ -36,8 +38,8 @@ TakesPlaces old new before after = (ks : List Key) → IsDistinct same_key ks �
 abbrev pub TakesNoMore : MemoState → MemoState → ℕ → ℕ → Type 0
 TakesNoMore old new before after = TakesPlaces old new before after ⊎ (2 ^ 64 - 1 ≤ after)
 
--- Nothing was evicted while there was room: no more room is left than before, and where some is left, each entry still stands,
--- stale ones too.
+-- Nothing was evicted while there was room: no more room is left than before, and where some is left, each entry still
+-- stands, stale ones too.
 pub record GivesUpWhenFull (old new : MemoState) : Type 0 where
   pub space : new.space ≤ old.space
   pub stays : 1 ≤ new.space → (k : Key) → old.stands k ≡ true → new.stands k ≡ true

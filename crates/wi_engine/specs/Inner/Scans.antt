@@ -41,8 +41,8 @@ is_next s f c way a =
     (is_within (part c.rectangle way a) c.last && nat_lt c.last a)
     && is_first a (lacking_after s f.key.world f.found (part c.rectangle way a) c.last)
 
--- Up to twice as many cells are found as before, of the same rectangle. The one that is wanted is the next one, or the scan
--- has broken often.
+-- Up to twice as many cells are found as before, of the same rectangle. The one that is wanted is the next one, or the
+-- scan has broken often.
 pub record IsLedOn (s : Sheet) (f : Frame) (a : ℕ) (old c : Scan) : Type 0 where
   pub one_of : Contains f.scans.items old
   pub rectangle : old.rectangle ≡ c.rectangle
@@ -59,8 +59,8 @@ pub record IsSmallestWith (rs : List Area) (a : ℕ) (r : Area) : Type 0 where
   pub holds : is_within r a ≡ true
   pub least : (o : Area) → Contains rs o → is_within o a ≡ true → size_of r ≤ size_of o
 
--- The cells are this one and the next ones that a frame lacks of a part of one rectangle that the formula reads, a smallest that
--- holds the cell: as many as its scan says, or all that there are.
+-- The cells are this one and the next ones that a frame lacks of a part of one rectangle that the formula reads, a
+-- smallest that holds the cell: as many as its scan says, or all that there are.
 pub record AreTogether (s : Sheet) (f : Frame) (t : Tree) (a : ℕ) (c : Scan) (xs : List ℕ) : Type 0 where
   pub smallest : IsSmallestWith (rectangles_of t) a c.rectangle
   pub cells : xs ≡ a ∷ take (c.count - 1) (lacking_after s f.key.world f.found (part c.rectangle c.way a) a)

@@ -1,5 +1,5 @@
--- What a question spends, and what it leaves. The counts are held against two tables: the values that were found, always, and
--- those that are kept, where there is room.
+-- What a question spends, and what it leaves. The counts are held against two tables: the values that were found,
+-- always, and those that are kept, where there is room.
 use Rattle.std.specs.Prelude.{◌≡◌, ◌+◌, ◌≤◌, ℕ, Bool, true, false, List, Result, IfOk, OnOk, is_ok}
 use Rattle.std.specs.declared.alloc.AllocError.{AllocError}
 use Rattle.wi_values.specs.declared.value.Value.{Value}
@@ -14,10 +14,10 @@ use Rattle.wi_sheet.specs.Inner.Spending.{HasCase, IsClosed, NeverFall, SpentOn,
 use Rattle.wi_engine.specs.Inner.MemoState.{MemoState, IsMemoOf}
 use Rattle.wi_engine.specs.Inner.Saving.{not_kept, IsValuedAnew, KeepsFound, NeedsNoEvaluation, WhereSpace, TakesNoMore, GivesUpWhenFull}
 
--- At least as many free places were filled as values were evaluated. There is still room for the cases that are not kept, and no
--- entry was evicted, stale ones included. The formula of each case that came to be kept means the same, whatever values stand for
--- what isn't settled: that is `RestsOnKept`. (`RestsOn`, by which a list is closed, is another relation: one case's formula asks
--- for the other.)
+-- At least as many free places were filled as values were evaluated. There is still room for the cases that are not
+-- kept, and no entry was evicted, stale ones included. The formula of each case that came to be kept means the same,
+-- whatever values stand for what isn't settled: that is `RestsOnKept`. (`RestsOn`, by which a list is closed, is
+-- another relation: one case's formula asks for the other.)
 pub record Saved (s : Sheet) (old new : MemoState) (before after : Counts) (ks : List Case) : Type 0 where
   pub added : after.evaluations + new.space ≤ before.evaluations + old.space
   pub space : not_kept new ks ≤ new.space
@@ -33,9 +33,10 @@ pub record IsSameBeside (old new : MemoState) : Type 0 where
   pub capacity : new.capacity ≡ old.capacity
   pub latest : new.latest ≡ old.latest
 
--- What is so after a question, or a part of one: where it was done, and also where memory ran out. `Has` says which cases a list
--- is to have, those that were asked for; each closed list that has them bounds the counts. Where memory ran out, these clauses
--- leave open which of the values found on the way are still found; `stays` of `Memo::keep` says that a memory forgets none.
+-- What is so after a question, or a part of one: where it was done, and also where memory ran out. `Has` says which
+-- cases a list is to have, those that were asked for; each closed list that has them bounds the counts. Where memory
+-- ran out, these clauses leave open which of the values found on the way are still found; `stays` of `Memo::keep` says
+-- that a memory forgets none.
 pub record Spends (s : Sheet) (Has : List Case → Type 0) (old new : MemoState) (before after : Counts) (done : Bool) : Type 0 where
   pub right : IsMemoOf s new
   pub same : IsSameBeside old new
@@ -46,8 +47,8 @@ pub record Spends (s : Sheet) (Has : List Case → Type 0) (old new : MemoState)
   pub on_kept : WhereSpace s Has old (λ ks. SpentOn s old.kept new.kept before after done ks)
   pub saved : done ≡ true → WhereSpace s Has old (λ ks. Saved s old new before after ks)
 
--- What is so after a whole question: of what it evaluates it needn't remember all where there is no room. So each closed list that
--- has what it is to have bounds the counts by what all its cases cost, those too that were found.
+-- What is so after a whole question: of what it evaluates it needn't remember all where there is no room. So each
+-- closed list that has what it is to have bounds the counts by what all its cases cost, those too that were found.
 pub record SpendsAtMost (s : Sheet) (Has : List Case → Type 0) (old new : MemoState) (before after : Counts) (done : Bool) : Type 0 where
   pub right : IsMemoOf s new
   pub same : IsSameBeside old new
@@ -58,14 +59,15 @@ pub record SpendsAtMost (s : Sheet) (Has : List Case → Type 0) (old new : Memo
   pub on_kept : WhereSpace s Has old (λ ks. SpentOn s old.kept new.kept before after done ks)
   pub saved : done ≡ true → WhereSpace s Has old (λ ks. Saved s old new before after ks)
 
--- What is so where a question has asked for the value of a cell under replacements: where it was found, and also where memory ran out.
+-- What is so where a question has asked for the value of a cell under replacements: where it was found, and also where
+-- memory ran out.
 pub record ValuesCell (s : Sheet) (old new : MemoState) (w : List Replacement) (a : ℕ) (before after : Counts) (r : Result Value AllocError) : Type 0 where
   pub value : IfOk r (λ v. v ≡ cell_value (put_all s w) a)
   -- what is remembered then is right, and no more is counted than the cases cost whose values were not
   pub spends : Spends s (HasCase s w a) old new before after (is_ok r)
   -- a value that is remembered, and one that no formula gives, is counted for nothing
   pub uncounted : NeedsNoEvaluation s old w a → after ≡ before
-  -- The value is kept where anything is. Where there is room for some closed list of cases that has this one, the cell is settled:
-  -- which list that is makes no difference, so it is left out.
+  -- The value is kept where anything is. Where there is room for some closed list of cases that has this one, the cell
+  -- is settled: which list that is makes no difference, so it is left out.
   pub kept : OnOk r (IsValuedAnew s old w a → 1 ≤ old.capacity → new.kept a (reaching s a w) ≡ true)
   pub settled : OnOk r (WhereSpace s (HasCase s w a) old (λ ks. IsSettled s new.kept w a))

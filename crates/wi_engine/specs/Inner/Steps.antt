@@ -23,9 +23,9 @@ use Rattle.wi_engine.specs.declared.frame.Step.TheVariants.{First, Ready}
 
 -- ---- what a step of a frame leaves
 
--- The memory is as it was, and so is the frame's key. Where the step is done, the frame is one still, and what was found for it is
--- settled where that was so; and the restarts that are spare are fewer by at least `values`: by those that were counted, or by one
--- where a value was lacking that is found or waited for now.
+-- The memory is as it was, and so is the frame's key. Where the step is done, the frame is one still, and what was
+-- found for it is settled where that was so; and the restarts that are spare are fewer by at least `values`: by those
+-- that were counted, or by one where a value was lacking that is found or waited for now.
 pub record FrameSteps (s : Sheet) (old new : MemoState) (before after : Frame) (values : ℕ) (done : Bool) : Type 0 where
   pub same : new ≡ old
   pub key : after.key ≡ before.key

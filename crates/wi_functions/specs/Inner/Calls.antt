@@ -26,6 +26,7 @@ abbrev pub chosen_of : choice.Choice → List Argument → Value
 chosen_of (choice.TheVariants.Value v) args = v
 chosen_of (choice.TheVariants.Parameter place default) args = value_or default args place
 
--- whatever arguments there are, so many of them and the first with this value: what is chosen of them is what the function gives
+-- whatever arguments there are, so many of them and the first with this value: what is chosen of them is what the
+-- function gives
 abbrev pub Chooses : LazyFunction → Value → ℕ → choice.Choice → Type 0
 Chooses function first count made = (args : List Argument) → length args ≡ count → first ≡ value_at args 0 → chosen_of made args ≡ applied_to_arguments (Lazy function) args

@@ -36,8 +36,8 @@ stopped (Missing c) = Missing (Cell c)
 stopped Memory = Memory
 
 module _ {K : Type 0} (known_cell : K → ℕ → Option Value) (known_what_if : K → ℕ → List (ℕ × ℕ) → Option Value) (known : K) where
-  -- An evaluation gives what the part means by each assignment that agrees with what is known, seen by that assignment; or else
-  -- it stops at what the part asks for and isn't known, or because memory ran out.
+  -- An evaluation gives what the part means by each assignment that agrees with what is known, seen by that assignment;
+  -- or else it stops at what the part asks for and isn't known, or because memory ran out.
   abbrev pub EvaluatesAs : {R M : Type 0} → Result R (Stop Want) → (Assignment → R → M) → Part M → Type 0
   EvaluatesAs result seen part = MatchResult result
       (λ r. ByAll known_cell known_what_if known (λ a. seen a r ≡ part.means a))

@@ -48,7 +48,8 @@ IsBelow rooms cell areas below = below.clear ≡ true → IsSearchingBelow rooms
 abbrev pub ReachesNot : Rooms → ℕ → List Area → Type 0
 ReachesNot rooms cell areas = (visited : ℕ → Bool) × IsSearchingBelow rooms cell areas visited []
 
--- something is next for one cell, which isn't circular; what it reads then, at any remove, isn't circular and isn't the cell
+-- something is next for one cell, which isn't circular; what it reads then, at any remove, isn't circular and isn't the
+-- cell
 pub record ReadsApart (rooms : Rooms) (next : Coming) (cyclic : BTreeSet ℕ) : Type 0 where
   pub cell : ℕ
   pub room : Option (SmallVec Area)

@@ -25,7 +25,8 @@ mark_token (Some m) = Some (Mark m, length (mark_text m))
 abbrev pub brackets_at : List ℕ → Option (Kind × ℕ)
 brackets_at bs = option_or (of_length Reference (reference_len bs)) (of_length Rectangle (rectangle_len bs))
 
--- the longest token at the front and its length: a number, else a mark, else a reference, else a rectangle, else a name, else a text
+-- the longest token at the front and its length: a number, else a mark, else a reference, else a rectangle, else a
+-- name, else a text
 unfoldable pub token_at : List ℕ → Option (Kind × ℕ)
 token_at bs =
     option_or (of_length Number (number_len bs))

@@ -1,4 +1,5 @@
--- How the outcomes of MATCH, INDEX, VLOOKUP and HLOOKUP stand to the definitions, whatever cells hold of which nothing is known.
+-- How the outcomes of MATCH, INDEX, VLOOKUP and HLOOKUP stand to the definitions, whatever cells hold of which nothing
+-- is known.
 use Rattle.std.specs.Prelude.{◌≡◌, ℕ, ◌+◌, true, List, Option, None, Result, Ok, Err}
 use Rattle.std.specs.List.{list_any}
 use Rattle.wi_values.specs.Address.{Area, is_within}

@@ -24,7 +24,8 @@ Gives known f args (Ok v) = IsOfArguments known f args v
 Gives known f args (Err (Error e)) = IsOfArguments known f args (Fault e)
 Gives known f args (Err (Stopped s)) = IfMissing s (IsMissing known args)
 
--- a step's result as `seen`, or its error, whatever the cells hold of which this is known; where it stops for a cell, that is so of the cell
+-- a step's result as `seen`, or its error, whatever the cells hold of which this is known; where it stops for a cell,
+-- that is so of the cell
 abbrev pub Agrees : {A B : Type 0} → (ℕ → Option Value) → (ℕ → Type 0) → (A → B) → ((ℕ → Value) → Result B ErrorKind) → Result A (NoValue (Stop ℕ)) → Type 0
 Agrees known missing seen r (Ok x) = (cells : ℕ → Value) → KnownAgrees known cells → r cells ≡ Ok (seen x)
 Agrees known missing seen r (Err (Error e)) = (cells : ℕ → Value) → KnownAgrees known cells → r cells ≡ Err e

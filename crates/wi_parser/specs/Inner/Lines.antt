@@ -1,5 +1,5 @@
--- Which symbols spell which tree, by the lines of the grammar (OpenFormula, "Expression Syntax"). A law ties it to what grammatical trees are
--- spelled as.
+-- Which symbols spell which tree, by the lines of the grammar (OpenFormula, "Expression Syntax"). A law ties it to what
+-- grammatical trees are spelled as.
 use Rattle.std.specs.Prelude.{◌≡◌, ℕ, suc, List, [], ◌∷◌, ◌++◌}
 use Rattle.wi_fraction.specs.Number.{Number}
 use Rattle.wi_parser.specs.declared.expr.Corners.{Corners}

@@ -44,7 +44,8 @@ abbrev pub constant_read : List ℕ → Option (List ℕ) → Result Content Par
 constant_read text (Some rest) = taken_as_text rest
 constant_read text None = ok_or (option_map Constant (imported text)) TooLong
 
--- what is put into a cell: a formula where the text begins with `=` or `of:=`, a text after an apostrophe, or what is imported
+-- what is put into a cell: a formula where the text begins with `=` or `of:=`, a text after an apostrophe, or what is
+-- imported
 unfoldable pub content_read : List ℕ → Result Content ParseFault
 content_read text =
     if is_some (after_equals text) then as_content (parsed text)

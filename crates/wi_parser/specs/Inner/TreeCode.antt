@@ -1,4 +1,5 @@
--- A code for trees, which the type of formulas needs: a list of steps in postfix order, from which the tree is built again.
+-- A code for trees, which the type of formulas needs: a list of steps in postfix order, from which the tree is built
+-- again.
 use Rattle.std.specs.Prelude.{◌≡◌, ℕ, zero, suc, Bool, false, List, [], ◌∷◌, ◌++◌, refl}
 use Rattle.std.proofs.Common.{ap, ◌∙◌}
 use Rattle.std.specs.Coded.{Coded, code_by, coded×, coded_ℕ, coded_bool, coded_list}

@@ -5,8 +5,8 @@ use Rattle.wi_parser.specs.Sheet.{Sheet, cells_with_formula}
 use Rattle.wi_graph.specs.Latest.{AreDirty, latest_among}
 use Rattle.wi_propagate.specs.KeptSheet.{Generations, generation_in}
 
--- Cells that edits named, each with the number of the last that did; cells that were stamped with the number of an edit that named what they
--- reach; and the dirty cells, whose dependents aren't stamped with their last edits yet.
+-- Cells that edits named, each with the number of the last that did; cells that were stamped with the number of an edit
+-- that named what they reach; and the dirty cells, whose dependents aren't stamped with their last edits yet.
 pub record Stamps : Type 0 where
   pub edited_at : Generations
   pub valid_since : Generations

@@ -107,7 +107,8 @@ KeepsOtherPieces m old new = (q : Piece) → is_piece (blocks_of m.pair) m q ≡
 abbrev pub Gains : List Block → Numbered → List Piece → List Piece → Type 0
 Gains xs m old new = (f : Piece → ℕ) → sum_by f new ≡ sum_by f old + sum_by (λ x. f (x, m)) xs
 
--- The pair m was put in at some blocks, or at a part of them where memory ran out, and not all of it was there then. No other piece came or went.
+-- The pair m was put in at some blocks, or at a part of them where memory ran out, and not all of it was there then. No
+-- other piece came or went.
 pub record PutsPieces (xs : List Block) (m : Numbered) (result : Result (Unit {0}) AllocError) (old new : List Piece) : Type 0 where
   pub put : OnOk result (HasPieces xs m new)
   pub kept : (q : Piece) → is_piece xs m q ≡ false → has_piece new q ≡ has_piece old q

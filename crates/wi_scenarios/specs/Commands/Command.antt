@@ -3,7 +3,8 @@ use Rattle.std.specs.Prelude.{ℕ, Bool, true, false, List, [], ◌∷◌, Optio
 use Rattle.wi_fraction.specs.Text.{Bytes}
 use Rattle.wi_scenarios.specs.Commands.Operands.{Cell, Corners, Operand, WORD, ADDR, RECT, NAME, SESSION, SIDE, ANY, LINES, CONTENT}
 
--- What a line asks for, whatever its operands are worth. `Csv` has the number of data lines asked for and those that came.
+-- What a line asks for, whatever its operands are worth. `Csv` has the number of data lines asked for and those that
+-- came.
 pub data Command : Type 0 where
   Set : Bool → Cell → Bytes → Command
   Clear : Bool → Corners → Command

@@ -17,7 +17,8 @@ use Rattle.wi_scenarios.specs.Edits.{limit_of}
 abbrev pub stale_on : Desk → Bool → List Area → Option ℕ
 stale_on d force named = if force then None else first_stale d.log d.current (session_at d.sessions d.current).seen named
 
--- Cells that are marked for the edited ones, of which there is one at least then, and among them all those that don't pass the test.
+-- Cells that are marked for the edited ones, of which there is one at least then, and among them all those that don't
+-- pass the test.
 pub record AreMarked (marked : Sheet → List ℕ → ℕ → Bool) (sheet : Sheet) (test : ℕ → Bool) (contents : List (ℕ × Option Content)) (found : List ℕ) : Type 0 where
   pub only : (a : ℕ) → is_one_of found a ≡ true → (0 < length contents) × (marked sheet (keys_of contents) a ≡ true)
   pub others : 0 < length contents → (a : ℕ) → marked sheet (keys_of contents) a ≡ true → (is_one_of found a ≡ true) ⊎ (test a ≡ true)

@@ -40,8 +40,8 @@ IsClosed marked sheet test = (a c : ℕ) → test a ≡ true → marked sheet (a
 abbrev pub AreClosed : (Sheet → List ℕ → ℕ → Bool) → State → List (List ℕ) → Type 0
 AreClosed marked s pending = (i : ℕ) → i < length s.sessions → IsClosed marked s.stored.sheet (is_pending pending i)
 
--- The current session is one of the sessions, of which there are no more than may be; each has its pending cells, with each of them
--- those that it marks, no vacant room, and a picture that is right in all other cells.
+-- The current session is one of the sessions, of which there are no more than may be; each has its pending cells, with
+-- each of them those that it marks, no vacant room, and a picture that is right in all other cells.
 pub record IsSound (marked : Sheet → List ℕ → ℕ → Bool) (stored : Stored) (d : Desk) : Type 0 where
   pub within : d.current < length d.sessions.sessions
   pub few : length d.sessions.sessions ≤ max_sessions
@@ -50,8 +50,8 @@ pub record IsSound (marked : Sheet → List ℕ → ℕ → Bool) (stored : Stor
   pub closed : AreClosed marked (state_of stored d) (pending_in d)
   pub covered : AreCovered (state_of stored d) (pending_in d)
 
--- What a command about scenarios leaves, by its answers: it edits no cell, so that what became pending is marked for replacements alone; where it refused, what is
--- pending is as it was.
+-- What a command about scenarios leaves, by its answers: it edits no cell, so that what became pending is marked for
+-- replacements alone; where it refused, what is pending is as it was.
 pub record ServesSound (marked : Sheet → List ℕ → ℕ → Bool) (IsAnswer : Answer → Type 0) (result : Result (Unit {0}) Refusal) (stored : Stored) (old new : Desk) : Type 0 where
   pub step : Serves IsAnswer result (state_of stored old) (state_of stored new) []
   pub adds : AddsOnly marked [] (state_of stored old) (state_of stored new) (pending_in old) (pending_in new)

@@ -32,8 +32,8 @@ pub record AreDiffering (before after : List Replacement) (cells : List ℕ) : T
   pub each : (a : ℕ) → is_one_of cells a ≡ true → Differs before after a
   pub others : (a : ℕ) → is_one_of cells a ≡ false → replaced before a ≡ replaced after a
 
--- There is room for cells alone that are marked for some whose replacement is another, and with each of them for those that it marks, where
--- they aren't pending. A cell that is neither one of them nor pending shows the same.
+-- There is room for cells alone that are marked for some whose replacement is another, and with each of them for those
+-- that it marks, where they aren't pending. A cell that is neither one of them nor pending shows the same.
 pub record HasRoom (marked : Sheet → List ℕ → ℕ → Bool) (sheet : Sheet) (before after : List Replacement) (pending vacant : List ℕ) : Type 0 where
   pub marks : (a : ℕ) → is_one_of vacant a ≡ true → IsMarked marked sheet (Differs before after) a
   pub further : (a c : ℕ) → is_one_of vacant a ≡ true → marked sheet (a ∷ []) c ≡ true → (is_one_of pending c || is_one_of vacant c) ≡ true

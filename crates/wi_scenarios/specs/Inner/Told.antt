@@ -6,7 +6,8 @@ use Rattle.wi_sessions.specs.Sessions.{told}
 use Rattle.wi_sessions.specs.Roster.{session_at}
 use Rattle.wi_scenarios.specs.declared.desk.Desk.{Desk}
 
--- The current session was told these changes when the log had its length, and no cell is pending for it; all else is as it was.
+-- The current session was told these changes when the log had its length, and no cell is pending for it; all else is as
+-- it was.
 pub record IsTold (old : Desk) (changes : List (ℕ × Value)) (new : Desk) : Type 0 where
   pub sessions : new.sessions.sessions
       ≡ slice_set old.sessions.sessions old.current (told (session_at old.sessions old.current) changes (length old.log))

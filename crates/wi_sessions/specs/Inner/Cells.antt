@@ -62,15 +62,15 @@ HasCleared test words less = (i c : ℕ) → is_in less i c ≡ (is_in words i c
 abbrev pub at_cells : List ℕ → ℕ → ℕ → ℕ → Bool
 at_cells cells bits i c = is_one_of cells c && has_bit i bits
 
--- Room was made for the cells that pass the test, for the sessions with a bit, or for a part of them where memory ran out. What is pending is the same, and so is all for
--- sessions without a bit.
+-- Room was made for the cells that pass the test, for the sessions with a bit, or for a part of them where memory ran
+-- out. What is pending is the same, and so is all for sessions without a bit.
 pub record MakesRooms (test : ℕ → Bool) (bits : ℕ) (result : Result (Unit {0}) AllocError) (words staged more rooms : List (ℕ × ℕ)) : Type 0 where
   pub pending : SamePending words staged more rooms
   pub room : OnOk result (HasMade (λ i c. test c && has_bit i bits) words staged more rooms)
   pub others : (i c : ℕ) → has_bit i bits ≡ false → (is_in more i c ≡ is_in words i c) × (is_staged rooms i c ≡ is_staged staged i c)
 
--- Room was made for the i-th session: for each of the cells that isn't pending for it, beside the rooms that it had. If memory runs out, it has no room at all. What is
--- pending, and the rooms of the others, are the same.
+-- Room was made for the i-th session: for each of the cells that isn't pending for it, beside the rooms that it had. If
+-- memory runs out, it has no room at all. What is pending, and the rooms of the others, are the same.
 pub record GetsRoom (cells : List ℕ) (i : ℕ) (result : Result (Unit {0}) AllocError) (old new : AllPending) : Type 0 where
   pub lists : new.pending ≡ old.pending
   pub room : OnOk result ((a : ℕ) → is_one_of (list_at new.vacant i) a ≡ (is_one_of (list_at old.vacant i) a || (is_one_of cells a && not (is_one_of (list_at old.pending i) a))))

@@ -26,7 +26,8 @@ abbrev pub AreLookedAt : (cells changed : List ℕ) → List Unread → Type 0
 AreLookedAt cells changed unread =
     (i c : ℕ) (d : Unread) → i < length unread → is_one_of cells c ≡ true → is_unread changed (slice_index_or unread i d) c ≡ true
 
--- The cells are in order; there are no more sessions than bits; no other bit stands in a word; and each session has its place.
+-- The cells are in order; there are no more sessions than bits; no other bit stands in a word; and each session has its
+-- place.
 pub record AreKept (words staged : List (ℕ × ℕ)) (changed : List ℕ) (unread : List Unread) : Type 0 where
   pub order : IsStrictlySortedBy nat_cmp (keys_of words)
   pub few : length unread ≤ 64

@@ -7,8 +7,8 @@ use Rattle.wi_parser.specs.Sheet.{Sheet, content_of, put_all, has_formula}
 use Rattle.wi_functions.specs.Counts.{Counts}
 use Rattle.wi_sheet.specs.Demand.{Case, case_of, with_what_if, precedent_cases, wants}
 
--- a case rests on another: its formula reads that one's cell as the sheet stands, or has a what-if of it, and that one has a
--- formula too
+-- a case rests on another: its formula reads that one's cell as the sheet stands, or has a what-if of it, and that one
+-- has a formula too
 pub record RestsOn (s : Sheet) (k j : Case) : Type 0 where
   pub tree : Tree
   pub is : content_of (put_all s k.1) k.0 ≡ Some (Formula tree)
@@ -55,8 +55,8 @@ cost s t ks = record { evaluations = left (λ k. 1) t ks; restarts = left (wants
 abbrev pub plus : Counts → Counts → Counts
 plus a b = record { evaluations = a.evaluations + b.evaluations; restarts = a.restarts + b.restarts }
 
--- Of some cases no more was spent than all cost that were not in the table, and where it was done, no more than those cost
--- that came into it.
+-- Of some cases no more was spent than all cost that were not in the table, and where it was done, no more than those
+-- cost that came into it.
 pub record SpentOn (s : Sheet) (old new : Table) (before after : Counts) (done : Bool) (ks : List Case) : Type 0 where
   pub within : NeverFall after (plus before (cost s old ks))
   pub paid : done ≡ true → NeverFall (plus after (cost s new ks)) (plus before (cost s old ks))

@@ -53,7 +53,8 @@ lines_from top = 18446744073709551615 * 2 ^ (4 * top) % 2 ^ 64
 abbrev pub lines_to : ℕ → ℕ
 lines_to bottom = 18446744073709551615 / 2 ^ (60 - 4 * bottom)
 
--- a bit of a group of columns stands in the lines from one to another, from a column on, and in the columns of a rectangle
+-- a bit of a group of columns stands in the lines from one to another, from a column on, and in the columns of a
+-- rectangle
 abbrev pub IsInside : Area → ℕ → ℕ → ℕ → ℕ → ℕ → Type 0
 IsInside r g column top bottom i = (top ≤ i / 4) × (i / 4 ≤ bottom) × (column ≤ g * 4 + i % 4) × (g * 4 + i % 4 ≤ column_of r.last)
 
@@ -84,7 +85,8 @@ CountsFirst t left before = (b : ℕ) → b < 64 → bit_at left b ≡ 1 → ((i
 abbrev pub IsWhole : {V : Type 0} → List (Option V) → ℕ → Type 0
 IsWhole t left = (i j k : ℕ) → i < k → k < j → j < 64 → bit_at left i ≡ 1 → bit_at left j ≡ 1 → IsSome (slot t k) → bit_at left k ≡ 1
 
--- the bits of a tile that have something, and lie in the rectangle's columns from a column on, in the lines from one to another
+-- the bits of a tile that have something, and lie in the rectangle's columns from a column on, in the lines from one to
+-- another
 pub record HasBits {V : Type 0} (r : Area) (t : List (Option V)) (g column top bottom left : ℕ) : Type 0 where
   pub some : left ≢ 0
   pub sound : (i : ℕ) → i < 64 → bit_at left i ≡ 1 → IsInside r g column top bottom i × IsSome (slot t i)
@@ -106,7 +108,8 @@ pub record IsRest {V : Type 0} (w : Pages V) (r : Area) (ahead : ℕ) (t : List 
   pub inside : (i : ℕ) → i < 64 → bit_at left i ≡ 1 → is_within r (cell_in corner i) ≡ true
   pub order : (i c : ℕ) → i < 64 → bit_at left i ≡ 1 → ahead ≤ c → is_within r c ≡ true → cell_in corner i < c
 
--- where the walk goes on: in a row from a column on, and if tiles are at hand, those before a place lie left of the column
+-- where the walk goes on: in a row from a column on, and if tiles are at hand, those before a place lie left of the
+-- column
 pub record GoesOn {V : Type 0} (r : Area) (row column : ℕ) (tiles : Option (Bor (Band V))) (n : ℕ) : Type 0 where
   pub top : row_of r.first ≤ row
   pub left : column_of r.first ≤ column

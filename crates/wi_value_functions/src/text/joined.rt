@@ -59,8 +59,8 @@ fn rept(alloc: Global, text: &Value, number: &Value) -> Result<Value, NoValue<Al
     repeated(alloc, shown.as_str(), number)
 }
 
-/// A text so many times, where that is not too long. More times than the longest text has bytes are too many of any text
-/// but the empty one, and of that they change nothing.
+/// A text so many times, where that is not too long. More times than the longest text has bytes are too many of any
+/// text but the empty one, and of that they change nothing.
 fn repeated(alloc: Global, text: &str, number: u128) -> Result<Value, NoValue<AllocError>>
     ensures { Gives result (limited_text (repeat number text.now)) }
 {

@@ -1,4 +1,5 @@
--- What a text that comes from outside a formula is taken for, as a reader finds it. A law ties it to what texts are taken for.
+-- What a text that comes from outside a formula is taken for, as a reader finds it. A law ties it to what texts are
+-- taken for.
 use Rattle.std.specs.Prelude.{ℕ, List, [], true, false, Option, Some, None, codes, nat_lt, length, if◌then◌else◌}
 use Rattle.std.specs.Str.{bytes_eq}
 use Rattle.wi_fraction.specs.Number.{Number as Numbers}
