@@ -344,10 +344,7 @@ fn add_bits(
         ≡ is_in words.old.entries i c) }
 {
     let mut rooms = Vec::new(alloc);
-    match stage(words, &mut rooms, cells, bits) {
-        Ok(()) => Ok(()),
-        Err(error) => Err(error),
-    }
+    stage(words, &mut rooms, cells, bits)
 }
 
 /// Tracks cells as a session's own, and makes room for them. If memory runs out, there is room for a part of them.
