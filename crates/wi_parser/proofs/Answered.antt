@@ -1,17 +1,18 @@
 -- What the calls on formulas and contents answer.
 use Rattle.wi_parser.proofs.Words.{◌≡◌, ◌≤◌, Bool, true, false, List, length, ℕ, Option, Some, None, option_map, is_some, ok_or, Ok, Err, if◌then◌else◌, ℤ, codes, refl, ap, sym, ◌∙◌, le-ltb, Value, max_text, imported, Constant, Formula, TooLong, Tree, stays, moved, all_references, map_references, shifted, Front, IsFrontOf, after, after_equals, parsed, as_content, taken_as_text, constant_read, content_read}
+use Rattle.wi_parser.proofs.Shifts.{shifted_is}
 use Rattle.wi_values.specs.declared.value.Value.TheVariants.{Text}
 
 -- ---- shifts
 
 pub shifted_none : (down right : ℤ) (t w : Tree) → t ≡ w → false ≡ all_references (stays down right) t → shifted down right w ≡ None
 shifted_none down right t w same h =
-    ap (shifted down right) (sym same) ∙ ap (λ b. if b then Some (map_references (moved down right) t) else None) (sym h)
+    ap (shifted down right) (sym same) ∙ shifted_is down right t ∙ ap (λ b. if b then Some (map_references (moved down right) t) else None) (sym h)
 
 pub shifted_found : (down right : ℤ) (t w new f : Tree) → t ≡ w → true ≡ all_references (stays down right) t → new ≡ map_references (moved down right) t → f ≡ new
     → shifted down right w ≡ Some f
 shifted_found down right t w new f same h made is =
-    ap (shifted down right) (sym same) ∙ ap (λ b. if b then Some (map_references (moved down right) t) else None) (sym h) ∙ ap Some (sym (is ∙ made))
+    ap (shifted down right) (sym same) ∙ shifted_is down right t ∙ ap (λ b. if b then Some (map_references (moved down right) t) else None) (sym h) ∙ ap Some (sym (is ∙ made))
 
 -- ---- contents
 

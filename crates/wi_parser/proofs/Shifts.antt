@@ -1,5 +1,6 @@
 -- Trees whose references move.
-use Rattle.wi_parser.proofs.Words.{◌≡◌, ℕ, ◌*◌, ◌<◌, pos, ◌+ℤ◌, Bool, true, false, ◌&&◌, nat_lt, if◌then◌else◌, List, [], ◌∷◌, ◌++◌, map, Some, None, is_some, unwrap_or, Result, IfOk, Box, Vec, Global, refl, ap, ap₂, sym, subst, ◌∙◌, arith, list_all, flat_map, and_parts, and_from, and-true, and_assoc, map-append, list_all-append, flat_map-append, nat_tests, ints, columns, rows, place, row_of, column_of, Fraction, Corners, Expr, Operator, Pair, Reference, Sign, WhatIf, tree_of, all_of, pair_of, Tree, Trees, number, text, cell, rectangle, parenthesized, signed, percent, binary, what_if, call, no_trees, more_trees, trees_of, Leaf, what_if_leaf, leaves, all_leaves, Symbol, Spells, SpellsAll, SpellsMore, a_number, a_text, a_cell, a_rectangle, in_parentheses, one_input, two_inputs, a_call, with_sign, with_percent, tighter, joined, no_parameter, parameters, last_parameter, another_parameter, spelling, spelling_of_all, spelling_of_more, within, part, stays, moved, in_sheet, leaf_references, all_references, map_references, map_references_in, shifted}
+use Rattle.wi_parser.proofs.Words.{◌≡◌, ℕ, ◌*◌, ◌<◌, pos, ◌+ℤ◌, Bool, true, false, ◌&&◌, nat_lt, if◌then◌else◌, List, [], ◌∷◌, ◌++◌, map, Option, Some, None, option_map, ℤ, is_some, unwrap_or, Result, IfOk, Box, Vec, Global, refl, ap, ap₂, sym, subst, ◌∙◌, arith, list_all, flat_map, and_parts, and_from, and-true, and_assoc, map-append, list_all-append, flat_map-append, nat_tests, ints, columns, rows, place, row_of, column_of, Fraction, Corners, Expr, Operator, Pair, Reference, Sign, WhatIf, tree_of, all_of, pair_of, Tree, Trees, number, text, cell, rectangle, parenthesized, signed, percent, binary, what_if, call, no_trees, more_trees, trees_of, Leaf, what_if_leaf, leaves, all_leaves, Symbol, Spells, SpellsAll, SpellsMore, a_number, a_text, a_cell, a_rectangle, in_parentheses, one_input, two_inputs, a_call, with_sign, with_percent, tighter, joined, no_parameter, parameters, last_parameter, another_parameter, spelling, spelling_of_all, spelling_of_more, within, part, row_moved, column_moved, mapped_pairs, mapped_tree, mapped_trees, shifted_reference, stays, moved, in_sheet, leaf_references, all_references, map_references, map_references_in, shifted}
+use Rattle.wi_fraction.specs.Arithmetic.{◌>>=◌}
 use Rattle.std.proofs.lemmas.List.{append-nil}
 use Rattle.wi_values.specs.declared.text.Text.{Text}
 use Rattle.wi_parser.specs.declared.expr.Expr.TheVariants as code
@@ -112,11 +113,80 @@ reference_kept r e =
       ap (λ a. record r { at = a }) (ap₂ (λ i j. place (unwrap_or i 0) (unwrap_or j 0)) row column ∙ same),
     )
 
+-- ---- a tree that is mapped where each reference is
+
+-- what is made of two that may be nothing
+abbrev both : {A B C : Type 0} → (A → B → C) → Option A → Option B → Option C
+both h o q = o >>= (λ x. q >>= (λ y. Some (h x y)))
+
+both_if : {A B C : Type 0} (h : A → B → C) (x : A) (y : B) (a b : Bool) → both h (if a then Some x else None) (if b then Some y else None) ≡ (if a && b then Some (h x y) else None)
+both_if h x y true true = refl
+both_if h x y true false = refl
+both_if h x y false b = refl
+
+one_if : {A B : Type 0} (h : A → B) (x : A) (a : Bool) → option_map h (if a then Some x else None) ≡ (if a then Some (h x) else None)
+one_if h x true = refl
+one_if h x false = refl
+
+module _ (f : Reference → Option Reference) (p : Reference → Bool) (g : Reference → Reference) (is : (r : Reference) → f r ≡ (if p r then Some (g r) else None)) where
+  pair_and_others : (x : Reference × Reference) (xs ys : List (Reference × Reference)) (a b c : Bool) → f x.0 ≡ (if a then Some (g x.0) else None) → f x.1 ≡ (if b then Some (g x.1) else None)
+      → mapped_pairs f xs ≡ (if c then Some ys else None) → mapped_pairs f (x ∷ xs) ≡ (if a && (b && c) then Some ((g x.0, g x.1) ∷ ys) else None)
+  pair_and_others x xs ys true true true d e h = rw (d, e, h) refl
+  pair_and_others x xs ys true true false d e h = rw (d, e, h) refl
+  pair_and_others x xs ys true false c d e h = rw (d, e) refl
+  pair_and_others x xs ys false b c d e h = rw d refl
+
+  pairs_are : (xs : List (Reference × Reference)) → mapped_pairs f xs ≡ (if list_all p (flat_map (λ q. q.0 ∷ q.1 ∷ []) xs) then Some (map (λ q. (g q.0, g q.1)) xs) else None)
+  pairs_are [] = refl
+  pairs_are (x ∷ xs) = pair_and_others x xs (map (λ q. (g q.0, g q.1)) xs) (p x.0) (p x.1) (list_all p (flat_map (λ q. q.0 ∷ q.1 ∷ []) xs)) (is x.0) (is x.1) (pairs_are xs)
+
+  mutual
+    tree_is : (t : Tree) → mapped_tree f t ≡ (if all_references p t then Some (map_references g t) else None)
+    tree_is (number x) = refl
+    tree_is (text s) = refl
+    tree_is (cell r) = ap (option_map cell) (is r) ∙ one_if cell (g r) (p r) ∙ ap (λ b. if b then Some (cell (g r)) else None) (sym (and-true (p r)))
+    tree_is (rectangle c) =
+        let made : Reference → Reference → Tree = λ r s. rectangle (record { one = r; other = s }) in
+        ap₂ (both made) (is c.one) (is c.other) ∙ both_if made (g c.one) (g c.other) (p c.one) (p c.other)
+        ∙ ap (λ b. if p c.one && b then Some (made (g c.one) (g c.other)) else None) (sym (and-true (p c.other)))
+    tree_is (parenthesized t) = ap (option_map parenthesized) (tree_is t) ∙ one_if parenthesized (map_references g t) (all_references p t)
+    tree_is (signed s t) = ap (option_map (signed s)) (tree_is t) ∙ one_if (signed s) (map_references g t) (all_references p t)
+    tree_is (percent t) = ap (option_map percent) (tree_is t) ∙ one_if percent (map_references g t) (all_references p t)
+    tree_is (binary op t u) =
+        ap₂ (both (binary op)) (tree_is t) (tree_is u) ∙ both_if (binary op) (map_references g t) (map_references g u) (all_references p t) (all_references p u)
+        ∙ ap (λ b. if b then Some (binary op (map_references g t) (map_references g u)) else None) (both_pass p (leaves t) (leaves u))
+    tree_is (what_if r xs) =
+        let ys : List (Reference × Reference) = map (λ q. (g q.0, g q.1)) xs in
+        let rs : List Reference = flat_map (λ q. q.0 ∷ q.1 ∷ []) xs in
+        ap₂ (both what_if) (is r) (pairs_are xs) ∙ both_if what_if (g r) ys (p r) (list_all p rs)
+        ∙ ap (λ qs. if p r && list_all p qs then Some (what_if (g r) ys) else None) (sym (append-nil rs))
+    tree_is (call k ts) =
+        ap (option_map (call k)) (trees_are ts) ∙ one_if (call k) (map_references_in g ts) (list_all p (flat_map leaf_references (all_leaves ts)))
+
+    trees_are : (ts : Trees) → mapped_trees f ts ≡ (if list_all p (flat_map leaf_references (all_leaves ts)) then Some (map_references_in g ts) else None)
+    trees_are no_trees = refl
+    trees_are (more_trees t ts) =
+        ap₂ (both more_trees) (tree_is t) (trees_are ts)
+        ∙ both_if more_trees (map_references g t) (map_references_in g ts) (all_references p t) (list_all p (flat_map leaf_references (all_leaves ts)))
+        ∙ ap (λ b. if b then Some (more_trees (map_references g t) (map_references_in g ts)) else None) (both_pass p (leaves t) (all_leaves ts))
+
+reference_is : (down right : ℤ) (r : Reference) → shifted_reference down right r ≡ (if stays down right r then Some (moved down right r) else None)
+unfolding stays moved
+reference_is down right r = by_parts (row_moved down r) (column_moved right r)
+  where
+    by_parts : (a b : Option ℕ) → both (λ i j. record r { at = place i j }) a b ≡ (if is_some a && is_some b then Some (record r { at = place (unwrap_or a 0) (unwrap_or b 0) }) else None)
+    by_parts None b = refl
+    by_parts (Some i) None = refl
+    by_parts (Some i) (Some j) = refl
+
+pub shifted_is : (down right : ℤ) (t : Tree) → shifted down right t ≡ (if all_references (stays down right) t then Some (map_references (moved down right) t) else None)
+shifted_is down right t = tree_is (shifted_reference down right) (stays down right) (moved down right) (reference_is down right) t
+
 pub by_nothing : (t : Tree) → all_references in_sheet t ≡ true → shifted (pos 0) (pos 0) t ≡ Some t
 by_nothing t e =
     let stay = all_pass in_sheet (stays (pos 0) (pos 0)) (λ r i. (reference_kept r i).0) (flat_map leaf_references (leaves t)) e in
     let same = tree_kept in_sheet (moved (pos 0) (pos 0)) (λ r i. (reference_kept r i).1) t e in
-    ap₂ (λ b u. if b then Some u else None) stay same
+    shifted_is (pos 0) (pos 0) t ∙ ap₂ (λ b u. if b then Some u else None) stay same
 
 -- ---- whether all references of an expression pass a test
 

@@ -89,6 +89,8 @@ pub use Rattle.wi_parser.specs.Inner.Deepest.{deepest, most_signs}
 pub use Rattle.wi_parser.specs.Inner.FormulaText.{IsFrontOf, after, after_equals, after_prefix, cell_symbol, corners_symbol, mark_symbol, number_symbol, rectangle_symbol, reference_symbol, symbol_of, symbols_by, symbols_of, symbols_with}
 unfoldable pub use Rattle.wi_parser.specs.Inner.FormulaText.{formula_symbols}
 pub use Rattle.wi_parser.specs.Inner.Lines.{Spells, SpellsAll, SpellsMore, a_call, a_cell, a_number, a_rectangle, a_text, another_parameter, in_parentheses, joined, last_parameter, loosest, no_parameter, one_input, parameters, tighter, two_inputs, with_percent, with_sign}
+pub use Rattle.wi_parser.specs.Inner.Moves.{all_references, column_moved, leaf_references, map_references, map_references_in, row_moved}
+unfoldable pub use Rattle.wi_parser.specs.Inner.Moves.{moved, stays}
 pub use Rattle.wi_parser.specs.Inner.Outcome.{Fails, Finds, FindsMore, before, put_before}
 pub use Rattle.wi_parser.specs.Inner.Parsed.{AreJudged, IsParsed, a_tree, as_judged, at_fault, no_tree, too_long}
 pub use Rattle.wi_parser.specs.Inner.PrintedParts.{pairs_text}
@@ -105,8 +107,7 @@ pub use Rattle.wi_parser.specs.Limits.{max_formula}
 pub use Rattle.wi_parser.specs.Nesting.{depth, greatest_depth, is_sign, is_too_deep, max_depth, opened}
 pub use Rattle.wi_parser.specs.Printing.{cell_named, operator_text, printed, symbol_text}
 pub use Rattle.wi_parser.specs.Reads.{area_of, cell_area, inputs_of, leaf_inputs, leaf_reads, leaf_rectangles, reads, rectangles_of}
-pub use Rattle.wi_parser.specs.Shift.{all_references, column_moved, in_sheet, leaf_references, map_references, map_references_in, part, row_moved, shifted, within}
-unfoldable pub use Rattle.wi_parser.specs.Shift.{moved, stays}
+pub use Rattle.wi_parser.specs.Shift.{in_sheet, mapped_pairs, mapped_tree, mapped_trees, part, shifted, shifted_reference, within}
 pub use Rattle.wi_parser.specs.Spelling.{HasSpelling, IsSpelling, spelling, spelling_of_all, spelling_of_more}
 pub use Rattle.wi_parser.specs.Symbol.{Symbol, bad_token, close_parenthesis, corners, infix_mark, name, numeral, open_parenthesis, percent_mark, reference, separator, sign_mark, text_literal, what_if_name, written_as}
 pub use Rattle.wi_parser.specs.Symbols.{AreSymbols, Means, NoneBegins, NoneLonger, a_closing_parenthesis, a_name, a_percent_mark, a_reference, a_separator, a_token, an_opening_parenthesis, an_operator, an_outside_rectangle, an_outside_reference, an_unfit_number, at_the_end, name_symbol, no_token, reference_to, white_space}

@@ -5,6 +5,7 @@ pub mod Faults
 pub mod FormulaText
 pub mod Inside
 pub mod Lines
+pub mod Moves
 pub mod Nests
 pub mod Outcome
 pub mod Parsed

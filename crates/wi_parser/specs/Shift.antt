@@ -1,14 +1,11 @@
 -- A formula filled into another cell: the relative parts of its references move with it.
-use Rattle.std.specs.Prelude.{◌≡◌, ℕ, ℤ, pos, negsuc, ◌+ℤ◌, ◌*◌, Bool, true, false, ◌&&◌, nat_lt, if◌then◌else◌, List, [], ◌∷◌, map, Option, Some, None, is_some, unwrap_or, Result, Ok, Err}
-use Rattle.std.specs.List.{list_all, flat_map}
+use Rattle.std.specs.Prelude.{◌≡◌, ℕ, ℤ, pos, negsuc, ◌+ℤ◌, ◌*◌, Bool, true, false, nat_lt, if◌then◌else◌, List, [], ◌∷◌, Option, Some, None, option_map, Result, Ok, Err}
+use Rattle.wi_fraction.specs.Arithmetic.{◌>>=◌}
 use Rattle.wi_values.specs.Address.{columns, rows, place, row_of, column_of}
 use Rattle.wi_parser.specs.declared.expr.Reference.{Reference}
 use Rattle.wi_parser.specs.declared.shift.ShiftFault.{ShiftFault}
 use Rattle.wi_parser.specs.declared.shift.ShiftFault.TheVariants.{LeavesSheet, Memory}
 use Rattle.wi_parser.specs.Tree.{Tree, Trees, cell, rectangle, parenthesized, signed, percent, binary, what_if, call, no_trees, more_trees}
-use Rattle.wi_parser.specs.Leaves.{Leaf, cell_leaf, rectangle_leaf, what_if_leaf, leaves}
-
--- ---- references
 
 -- a row or a column, if a sheet with so many has it
 abbrev pub within : ℕ → ℤ → Option ℕ
@@ -20,53 +17,58 @@ abbrev pub part : Bool → ℕ → ℤ → ℕ → Option ℕ
 part true size by k = Some k
 part false size by k = within size (pos k +ℤ by)
 
-abbrev pub row_moved : ℤ → Reference → Option ℕ
-row_moved down r = part r.row_is_absolute rows down (row_of r.at)
-
-abbrev pub column_moved : ℤ → Reference → Option ℕ
-column_moved right r = part r.column_is_absolute columns right (column_of r.at)
-
 -- a reference to a cell of the sheet
 abbrev pub in_sheet : Reference → Bool
 in_sheet r = nat_lt r.at (rows * columns)
 
-unfoldable pub stays : ℤ → ℤ → Reference → Bool
-stays down right r = is_some (row_moved down r) && is_some (column_moved right r)
-
--- down and to the right
-unfoldable pub moved : ℤ → ℤ → Reference → Reference
-moved down right r = record r { at = place (unwrap_or (row_moved down r) 0) (unwrap_or (column_moved right r) 0) }
+abbrev pub shifted_reference : ℤ → ℤ → Reference → Option Reference
+shifted_reference down right r = do
+  row ← part r.row_is_absolute rows down (row_of r.at)
+  column ← part r.column_is_absolute columns right (column_of r.at)
+  Some (record r { at = place row column })
 
 -- ---- trees
 
-abbrev pub leaf_references : Leaf → List Reference
-leaf_references (cell_leaf r) = r ∷ []
-leaf_references (rectangle_leaf c) = c.one ∷ c.other ∷ []
-leaf_references (what_if_leaf f pairs) = f ∷ flat_map (λ q. q.0 ∷ q.1 ∷ []) pairs
-
-abbrev pub all_references : (Reference → Bool) → Tree → Bool
-all_references p t = list_all p (flat_map leaf_references (leaves t))
+abbrev pub mapped_pairs : (Reference → Option Reference) → List (Reference × Reference) → Option (List (Reference × Reference))
+mapped_pairs f [] = Some []
+mapped_pairs f (q ∷ qs) = do
+  input ← f q.0
+  replacement ← f q.1
+  others ← mapped_pairs f qs
+  Some ((input, replacement) ∷ others)
 
 abbrev mutual
-  pub map_references : (Reference → Reference) → Tree → Tree
-  map_references f (cell r) = cell (f r)
-  map_references f (rectangle c) = rectangle (record { one = f c.one; other = f c.other })
-  map_references f (parenthesized t) = parenthesized (map_references f t)
-  map_references f (signed s t) = signed s (map_references f t)
-  map_references f (percent t) = percent (map_references f t)
-  map_references f (binary op t u) = binary op (map_references f t) (map_references f u)
-  map_references f (what_if r pairs) = what_if (f r) (map (λ q. (f q.0, f q.1)) pairs)
-  map_references f (call g ts) = call g (map_references_in f ts)
-  map_references f t = t
+  -- the tree with what f has for each reference, if it has that for all
+  pub mapped_tree : (Reference → Option Reference) → Tree → Option Tree
+  mapped_tree f (cell r) = option_map cell (f r)
+  mapped_tree f (rectangle c) = do
+    one ← f c.one
+    other ← f c.other
+    Some (rectangle (record { one = one; other = other }))
+  mapped_tree f (parenthesized t) = option_map parenthesized (mapped_tree f t)
+  mapped_tree f (signed s t) = option_map (signed s) (mapped_tree f t)
+  mapped_tree f (percent t) = option_map percent (mapped_tree f t)
+  mapped_tree f (binary op t u) = do
+    left ← mapped_tree f t
+    right ← mapped_tree f u
+    Some (binary op left right)
+  mapped_tree f (what_if r pairs) = do
+    formula_cell ← f r
+    others ← mapped_pairs f pairs
+    Some (what_if formula_cell others)
+  mapped_tree f (call g ts) = option_map (call g) (mapped_trees f ts)
+  mapped_tree f t = Some t
 
-  pub map_references_in : (Reference → Reference) → Trees → Trees
-  map_references_in f no_trees = no_trees
-  map_references_in f (more_trees t ts) = more_trees (map_references f t) (map_references_in f ts)
+  pub mapped_trees : (Reference → Option Reference) → Trees → Option Trees
+  mapped_trees f no_trees = Some no_trees
+  mapped_trees f (more_trees t ts) = do
+    first ← mapped_tree f t
+    others ← mapped_trees f ts
+    Some (more_trees first others)
 
--- each reference moved, where all of them stay in the sheet
+-- down and to the right
 abbrev pub shifted : ℤ → ℤ → Tree → Option Tree
-shifted down right t =
-    if all_references (stays down right) t then Some (map_references (moved down right) t) else None
+shifted down right t = mapped_tree (shifted_reference down right) t
 
 -- ---- what the calls answer
 

@@ -24,7 +24,8 @@ ghost use Rattle.wi_parser.specs.Inner.Answered.{IsAnsweredAs};
 ghost use Rattle.wi_parser.specs.Printing.{printed};
 ghost use Rattle.wi_parser.specs.Writable.{IsFormulaTree};
 ghost use Rattle.wi_parser.specs.Reads.{reads, rectangles_of};
-ghost use Rattle.wi_parser.specs.Shift.{in_sheet, all_references, shifted};
+ghost use Rattle.wi_parser.specs.Shift.{in_sheet, shifted};
+ghost use Rattle.wi_parser.specs.Inner.Moves.{all_references};
 
 /// A text means a symbol exactly where it is a token of some kind that stands for it.
 pub fn what_tokens_mean()

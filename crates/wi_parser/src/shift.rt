@@ -7,6 +7,7 @@ ghost use Rattle.wi_parser.specs.Tree as tree;
 ghost use Rattle.wi_parser.specs.Leaves.{all_leaves};
 ghost use Rattle.wi_parser.specs.View.{tree_of, all_of, pair_of};
 ghost use Rattle.wi_parser.specs.Shift as shift;
+ghost use Rattle.wi_parser.specs.Inner.Moves as moves;
 
 use crate::expr::{Corners, Expr, Operator, Pair, Reference, WhatIf, binary, call, text};
 use std::alloc::{AllocError, AllocFailed, Global};
@@ -45,7 +46,7 @@ impl<T: Drop> From<AllocFailed<T>> for ShiftFault {
 /// Whether the relative parts of all references stay in the sheet where they move by so many rows and columns.
 #[cycle(staying)]
 pub(crate) fn all_stay(expr: &Expr, rows: i64, columns: i64) -> bool
-    ensures { result ≡ shift.all_references (shift.stays rows columns) (tree_of expr.now) }
+    ensures { result ≡ moves.all_references (moves.stays rows columns) (tree_of expr.now) }
 {
     match expr {
         Expr::Number(_) => true,
@@ -69,8 +70,8 @@ pub(crate) fn all_stay(expr: &Expr, rows: i64, columns: i64) -> bool
 
 #[cycle(staying)]
 fn each_stays(exprs: &[Expr], rows: i64, columns: i64) -> bool
-    ensures { result ≡ list_all (shift.stays rows columns)
-        (flat_map shift.leaf_references (all_leaves (all_of exprs.now))) }
+    ensures { result ≡ list_all (moves.stays rows columns)
+        (flat_map moves.leaf_references (all_leaves (all_of exprs.now))) }
 {
     for expr in exprs {
         if !all_stay(expr, rows, columns) {
@@ -81,7 +82,7 @@ fn each_stays(exprs: &[Expr], rows: i64, columns: i64) -> bool
 }
 
 fn pairs_stay(pairs: &[Pair], rows: i64, columns: i64) -> bool
-    ensures { result ≡ list_all (shift.stays rows columns)
+    ensures { result ≡ list_all (moves.stays rows columns)
         (flat_map (λ q. q.0 ∷ q.1 ∷ []) (map pair_of pairs.now)) }
 {
     pairs.iter().all(|p| stays(&p.input, rows, columns) && stays(&p.replacement, rows, columns))
@@ -96,7 +97,7 @@ pub(crate) fn shifted(
     columns: i64,
 ) -> Result<Expr, AllocError>
     ensures { IfOk result
-        (λ e. tree_of e ≡ shift.map_references (shift.moved rows columns) (tree_of expr.now)) }
+        (λ e. tree_of e ≡ moves.map_references (moves.moved rows columns) (tree_of expr.now)) }
 {
     match expr {
         Expr::Number(x) => Ok(Expr::Number(*x)),
@@ -121,7 +122,7 @@ pub(crate) fn shifted(
 #[cycle(shift)]
 fn boxed(alloc: Global, expr: &Expr, rows: i64, columns: i64) -> Result<Box<Expr>, AllocError>
     ensures { IfOk result (λ b. tree_of b.value
-        ≡ shift.map_references (shift.moved rows columns) (tree_of expr.now)) }
+        ≡ moves.map_references (moves.moved rows columns) (tree_of expr.now)) }
 {
     Ok(Box::new(alloc, shifted(alloc, expr, rows, columns)?)?)
 }
@@ -137,7 +138,7 @@ fn binary_shifted(
     rows: i64,
     columns: i64,
 ) -> Result<Expr, AllocError>
-    ensures { IfOk result (λ e. tree_of e ≡ shift.map_references (shift.moved rows columns)
+    ensures { IfOk result (λ e. tree_of e ≡ moves.map_references (moves.moved rows columns)
         (tree.binary op (tree_of left.now) (tree_of right.now))) }
 {
     let left = shifted(alloc, left, rows, columns)?;
@@ -154,7 +155,7 @@ fn each_shifted(
     columns: i64,
 ) -> Result<Vec<Expr>, AllocError>
     ensures { IfOk result (λ v. all_of v.items
-        ≡ shift.map_references_in (shift.moved rows columns) (all_of exprs.now)) }
+        ≡ moves.map_references_in (moves.moved rows columns) (all_of exprs.now)) }
 {
     let mut moved = Vec::new(alloc);
     for expr in exprs {
@@ -171,8 +172,8 @@ fn what_if(
     rows: i64,
     columns: i64,
 ) -> Result<Expr, AllocError>
-    ensures { IfOk result (λ e. tree_of e ≡ tree.what_if (shift.moved rows columns f.now)
-        (map (λ q. (shift.moved rows columns q.0, shift.moved rows columns q.1))
+    ensures { IfOk result (λ e. tree_of e ≡ tree.what_if (moves.moved rows columns f.now)
+        (map (λ q. (moves.moved rows columns q.0, moves.moved rows columns q.1))
         (map pair_of pairs.now))) }
 {
     let formula_cell = moved(f, rows, columns);
@@ -191,7 +192,7 @@ fn moved_pairs(
     columns: i64,
 ) -> Result<Vec<Pair>, AllocError>
     ensures { IfOk result (λ v. map pair_of v.items
-        ≡ map (λ q. (shift.moved rows columns q.0, shift.moved rows columns q.1))
+        ≡ map (λ q. (moves.moved rows columns q.0, moves.moved rows columns q.1))
         (map pair_of pairs.now)) }
 {
     let mut all = Vec::new(alloc);
@@ -204,16 +205,16 @@ fn moved_pairs(
     Ok(all)
 }
 
-#[tactic(auto, unfolding(crate::specs::Shift::stays))]
+#[tactic(auto, unfolding(crate::specs::Inner::Moves::stays))]
 fn stays(r: &Reference, rows: i64, columns: i64) -> bool
-    ensures { result ≡ shift.stays rows columns r.now }
+    ensures { result ≡ moves.stays rows columns r.now }
 {
     row_moved(r, rows).is_some() && column_moved(r, columns).is_some()
 }
 
-#[tactic(auto, unfolding(crate::specs::Shift::moved))]
+#[tactic(auto, unfolding(crate::specs::Inner::Moves::moved))]
 fn moved(r: &Reference, rows: i64, columns: i64) -> Reference
-    ensures { result ≡ shift.moved rows columns r.now }
+    ensures { result ≡ moves.moved rows columns r.now }
 {
     let row = row_moved(r, rows).unwrap_or(0);
     let column = column_moved(r, columns).unwrap_or(0);
@@ -225,14 +226,14 @@ fn moved(r: &Reference, rows: i64, columns: i64) -> Reference
 }
 
 fn row_moved(r: &Reference, rows: i64) -> Option<u32>
-    ensures value { result ≡ shift.row_moved rows r.now }
+    ensures value { result ≡ moves.row_moved rows r.now }
     ensures within { IfSome result (λ k. k < spec.rows) }
 {
     part(r.row_is_absolute, ROWS, rows, r.at.row())
 }
 
 fn column_moved(r: &Reference, columns: i64) -> Option<u32>
-    ensures value { result ≡ shift.column_moved columns r.now }
+    ensures value { result ≡ moves.column_moved columns r.now }
     ensures within { IfSome result (λ k. k < spec.columns) }
 {
     part(r.column_is_absolute, COLUMNS, columns, r.at.column())
