@@ -34,6 +34,50 @@ pub(crate) fn operate(
     ensures { MatchResult result (λ v. v ≡ operate operator left.now right.now)
         (λ s. s ≡ Stop.Memory) }
 {
+    match (left, right) {
+        (Value::Number(x), Value::Number(y)) => operate_on_numbers(alloc, operator, x, y),
+        _ => operate_on_any(alloc, operator, left, right),
+    }
+}
+
+/// The same for two numbers, of which most operators need no conversion.
+#[inline(always)]
+fn operate_on_numbers(
+    alloc: Global,
+    operator: Operator,
+    x: &Fraction,
+    y: &Fraction,
+) -> Result<Value, Stop<Want>>
+    ensures { MatchResult result
+        (λ v. v ≡ operate operator (Value.Number x.now) (Value.Number y.now))
+        (λ s. s ≡ Stop.Memory) }
+{
+    match operator {
+        Operator::Add => Ok(number_value(add(*x, *y))),
+        Operator::Subtract => Ok(number_value(subtract(*x, *y))),
+        Operator::Multiply => Ok(number_value(multiply(*x, *y))),
+        Operator::Divide => Ok(number_value(divide(*x, *y))),
+        Operator::Equal => Ok(Value::Logical(x.cmp(y).is_eq())),
+        Operator::NotEqual => Ok(Value::Logical(x.cmp(y).is_ne())),
+        Operator::Less => Ok(Value::Logical(x.cmp(y).is_lt())),
+        Operator::LessOrEqual => Ok(Value::Logical(x.cmp(y).is_le())),
+        Operator::Greater => Ok(Value::Logical(x.cmp(y).is_gt())),
+        Operator::GreaterOrEqual => Ok(Value::Logical(x.cmp(y).is_ge())),
+        _ => operate_on_any(alloc, operator, &Value::Number(*x), &Value::Number(*y)),
+    }
+}
+
+/// The same for values of any kinds.
+#[inline(never)]
+fn operate_on_any(
+    alloc: Global,
+    operator: Operator,
+    left: &Value,
+    right: &Value,
+) -> Result<Value, Stop<Want>>
+    ensures { MatchResult result (λ v. v ≡ operate operator left.now right.now)
+        (λ s. s ≡ Stop.Memory) }
+{
     match operator {
         Operator::Add => Ok(number_value(sum(left, right))),
         Operator::Subtract => Ok(number_value(difference(left, right))),
