@@ -81,8 +81,8 @@ fn turn_below<'a, V>(pages: &'a Pages<V>, area: Rect, from: u32, side: u32) -> O
     None
 }
 
-/// Turns to the next tile of which a rectangle has something, from a row and a column on, where the band of that row has
-/// one; else the row to go on with.
+/// Turns to the next tile of which a rectangle has something, from a row and a column on, where the band of that row
+/// has one; else the row to go on with.
 fn turn_into<'a, V>(
     pages: &'a Pages<V>,
     area: Rect,

@@ -1,4 +1,5 @@
--- Moved references and trees as the code makes them: first it asks whether all stay in the sheet. A law ties them to what is shifted.
+-- Moved references and trees as the code makes them: first it asks whether all stay in the sheet. A law ties them to
+-- what is shifted.
 use Rattle.std.specs.Prelude.{ℕ, ℤ, Bool, ◌&&◌, List, [], ◌∷◌, map, Option, is_some, unwrap_or}
 use Rattle.std.specs.List.{list_all, flat_map}
 use Rattle.wi_values.specs.Address.{columns, rows, place, row_of, column_of}
