@@ -1,7 +1,7 @@
 -- What COUNTIF counts.
-use Rattle.wi_lookup_functions.proofs.Words.{◌≡◌, ℕ, ◌+◌, cond, List, [], ◌∷◌, map, Option, refl, sym, ap, ◌∙◌, subst, add_assoc, add-zero, zero-add, ◌^◌, Result, count_by, sum_by-cons, Area, cells_of, ErrorKind, Value, Argument, Region, region_at, value_at, whole_value, meets_criterion, no_error, count_if_value, ◌>>=◌, arguments_in, KnownAgrees, region_in, after_cells, counted, IsCut, cut_counted, cut_value, Criterion, criterion_held, is_met, Counting, Stop, NoValue, Error, Stopped, criterion_argument, Gives}
+use Rattle.wi_lookup_functions.proofs.Words.{◌≡◌, ℕ, ◌+◌, cond, List, [], ◌∷◌, map, Option, refl, sym, ap, ◌∙◌, subst, add_assoc, add-zero, zero-add, ◌^◌, Result, count_by, sum_by-cons, Area, cells_of, ErrorKind, Value, Argument, Region, region_at, value_at, whole_value, meets_criterion, meets_is, criterion_of, is_met_by, no_error, count_if_value, ◌>>=◌, arguments_in, KnownAgrees, region_in, after_cells, counted, IsCut, cut_counted, cut_value, Criterion, criterion_held, is_met, Counting, Stop, NoValue, Error, Stopped, criterion_argument, Gives}
 use Rattle.std.specs.Prelude.{◌-◌, min, Ok, Err}
-use Rattle.wi_standard_functions.specs.Criterion as defined
+use Rattle.wi_standard_functions.specs.Inner.Criteria as defined
 use Rattle.wi_arguments.specs.declared.argument.Argument as given
 use Rattle.wi_lookup_functions.proofs.Referring.{IsCriterionAt, by_criterion}
 
@@ -30,12 +30,17 @@ all_counted cells s t xs e z =
 abbrev pub count_by_steps : Result Region ErrorKind → Result defined.Criterion ErrorKind → Value
 count_by_steps o q = o >>= (λ r. q >>= (λ (d : defined.Criterion). whole_value (count_by (λ v. d.relation d.operand v) r.values)))
 
+-- by the criterion in the place of its test
+by_tests : (args : List Argument) (r : Region) →
+    (no_error (value_at args 1) >>= (λ w. whole_value (count_by (meets_criterion w) r.values))) ≡ (no_error (value_at args 1) >>= (λ w. whole_value (count_by (is_met_by (criterion_of w)) r.values)))
+by_tests args r = λ i. no_error (value_at args 1) >>= (λ w. whole_value (count_by (λ v. meets_is w v i) r.values))
+
 by_steps : (args : List Argument) (o : Result Region ErrorKind) (q : Result defined.Criterion ErrorKind) → region_at args 0 ≡ o → criterion_argument (value_at args 1) ≡ q → count_if_value args ≡ count_by_steps o q
 by_steps args o q h k = ap (λ (p : Result Region ErrorKind). p >>= (λ r. no_error (value_at args 1) >>= (λ w. whole_value (count_by (meets_criterion w) r.values)))) h ∙ at o
   where
     at : (p : Result Region ErrorKind) → (p >>= (λ r. no_error (value_at args 1) >>= (λ w. whole_value (count_by (meets_criterion w) r.values)))) ≡ count_by_steps p q
     at (Err e) = refl
-    at (Ok r) = by_criterion (no_error (value_at args 1)) (λ (d : defined.Criterion). whole_value (count_by (λ v. d.relation d.operand v) r.values)) ∙ ap (λ (p : Result defined.Criterion ErrorKind). p >>= (λ (d : defined.Criterion). whole_value (count_by (λ v. d.relation d.operand v) r.values))) k
+    at (Ok r) = by_tests args r ∙ by_criterion (no_error (value_at args 1)) (λ (d : defined.Criterion). whole_value (count_by (λ v. d.relation d.operand v) r.values)) ∙ ap (λ (p : Result defined.Criterion ErrorKind). p >>= (λ (d : defined.Criterion). whole_value (count_by (λ v. d.relation d.operand v) r.values))) k
 
 module _ (known : ℕ → Option Value) (args : List given.Argument) where
   -- the first argument is this rectangle, or the error

@@ -1,6 +1,9 @@
 -- How a function ends at a step that fails, and from the parts of a function to the whole.
-use Rattle.wi_lookup_functions.proofs.Words.{◌≡◌, ℕ, ℤ, ◌+◌, ◌-◌, ◌<◌, ◌≤◌, ◌==◌, ◌||◌, Bool, true, false, cond, List, length, Option, Ok, Err, refl, sym, ap, ◌∙◌, subst, arith, pos, int_lt, nat_lt, IsErrAnd, unsigned_abs, Bor, or_from, eq-eqb, le-leb, lt-leb, length-map, Area, place, row_of, column_of, is_within, ErrorKind, BadValue, BadReference, Value, Number, Fault, row_of_place, column_of_place, column_within, within_from, argument_in, arguments_in, KnownAgrees, IsMissing, Argument, Region, region_of, value_or, value_at, whole_value, zero_number, no_error, cell_in, index_value, index_along, index_by_both, nth_cell, nth_cell_along, position_among, sought_for, ◌>>=◌, and_then, NoValue, Error, Stopped, WhateverHeld, Finds, Places, IsPlacedIn, height, width}
+use Rattle.wi_lookup_functions.proofs.Words.{◌≡◌, ℕ, ℤ, ◌+◌, ◌-◌, ◌<◌, ◌≤◌, ◌==◌, ◌||◌, Bool, true, false, cond, zero, suc, List, [], ◌∷◌, length, slice_get_past, option_map_or, Option, Ok, Err, refl, sym, ap, ◌∙◌, subst, arith, pos, int_lt, nat_lt, IsErrAnd, unsigned_abs, Bor, or_from, eq-eqb, le-leb, lt-leb, length-map, Area, place, row_of, column_of, is_within, ErrorKind, BadValue, BadReference, Value, Number, Fault, row_of_place, column_of_place, column_within, within_from, argument_in, arguments_in, KnownAgrees, IsMissing, Argument, Region, region_of, value_or, value_at, region_at, to_whole, whole_value, one_number, zero_number, no_error, cell_in, index_value, index_along, index_by_both, nth_cell, nth_cell_along, position_among, sought_for, ◌>>=◌, and_then, NoValue, Error, Stopped, WhateverHeld, Finds, Places, IsPlacedIn, height, width}
 use Rattle.std.proofs.Common.{Result}
+use Rattle.wi_fraction.proofs.Wholes.{rounded_from}
+use Rattle.wi_fraction.specs.Number as numbers
+use Rattle.wi_fraction.specs.declared.rounding.Mode.TheVariants.{Toward}
 use Rattle.wi_arguments.specs.declared.argument.Argument as given
 use Rattle.wi_lookup_functions.specs.Inner.Finding.{Agrees}
 use Rattle.wi_lookup_functions.proofs.Asked.{itself, fault, sought_or_zero}
@@ -116,12 +119,38 @@ in_one_row cells r k w h =
     ap (λ (b : Bool). cond b (nth_cell (region_of cells r) k (pos 1)) (cond (height r == 1) (nth_cell (region_of cells r) (pos 1) k) (Fault BadValue))) w
     ∙ ap (λ (b : Bool). cond b (nth_cell (region_of cells r) (pos 1) k) (Fault BadValue)) (eq-eqb (height r) 1 h)
 
+-- INDEX by its third argument, and whether there is one
+abbrev index_by : List Argument → Value → Bool → Value
+index_by args third three = region_at args 0 >>= (λ r. to_whole (value_at args 1) >>= (λ j. to_whole third >>= (λ k.
+    cond (three || r.width == 1) (nth_cell r j k) (cond (r.height == 1) (nth_cell r (pos 1) j) (Fault BadValue)))))
+
+one_whole : to_whole (Number one_number) ≡ Ok (pos 1)
+one_whole = ap (λ (x : numbers.Number). Ok x.num) (sym (rounded_from Toward one_number one_number refl refl))
+
+of_two : (args : List Argument) → length args < 3 → index_value args ≡ index_along args
+of_two args few =
+    let none : value_or (Number one_number) args 2 ≡ Number one_number = ap (λ (o : Option Argument). option_map_or (λ (a : Argument). a.value) o (Number one_number)) (slice_get_past args 2 (omega (arith, few))) in
+    ap (index_by args (value_or (Number one_number) args 2)) (lt-leb 3 (length args) few)
+    ∙ ap (λ (v : Value). index_by args v false) none
+    ∙ ap (λ (o : Result ℤ ErrorKind). region_at args 0 >>= (λ r. to_whole (value_at args 1) >>= (λ j. o >>= (λ k. cond (r.width == 1) (nth_cell r j k) (cond (r.height == 1) (nth_cell r (pos 1) j) (Fault BadValue)))))) one_whole
+
+is_given : (default : Value) (args : List Argument) (i : ℕ) → i < length args → value_or default args i ≡ value_at args i
+is_given default [] i l = absurd (omega (arith, l))
+is_given default (a ∷ args) zero l = refl
+is_given default (a ∷ args) (suc i) l = is_given default args i (omega (arith, l))
+
+of_three : (args : List Argument) → 2 < length args → index_value args ≡ index_by_both args
+of_three args more =
+    let three : 3 ≤ length args = omega (arith, more) in
+    ap (index_by args (value_or (Number one_number) args 2)) (le-leb 3 (length args) three)
+    ∙ ap (λ (v : Value). index_by args v true) (is_given (Number one_number) args 2 more)
+
 pub with_two : (cells : ℕ → Value) (args : List given.Argument) → length args ≤ 2 → index_value (arguments_in cells args) ≡ index_along (arguments_in cells args)
 with_two cells args h =
-    let few : length (arguments_in cells args) ≤ 2 = omega (arith, length-map args (argument_in cells), h) in
-    ap (λ (b : Bool). cond b (index_along (arguments_in cells args)) (index_by_both (arguments_in cells args))) (le-leb (length (arguments_in cells args)) 2 few)
+    let few : length (arguments_in cells args) < 3 = omega (arith, length-map args (argument_in cells), h) in
+    of_two (arguments_in cells args) few
 
 pub with_three : (cells : ℕ → Value) (args : List given.Argument) → 2 < length args → index_value (arguments_in cells args) ≡ index_by_both (arguments_in cells args)
 with_three cells args h =
     let more : 2 < length (arguments_in cells args) = omega (arith, length-map args (argument_in cells), h) in
-    ap (λ (b : Bool). cond b (index_along (arguments_in cells args)) (index_by_both (arguments_in cells args))) (lt-leb (length (arguments_in cells args)) 2 more)
+    of_three (arguments_in cells args) more

@@ -2,7 +2,7 @@
 use Rattle.wi_lookup_functions.proofs.Words.{◌≡◌, ℕ, List, [], ◌∷◌, length, Option, Some, None, refl, sym, ap, ◌∙◌, subst, slice_get, Result, option_copied, IsItemAt, slice_get_past, slice_get_read, ErrorKind, Value, Empty, value_at, criterion_of, no_error, ◌>>=◌, and_then, Stop, Missing, Memory, argument_in, arguments_in, value_lent, KnownAgrees, IsMissing, IfMissing, refers_alone, value_absent, value_given, Criterion, criterion_held, NoValue, Error, Stopped, criterion_argument, Agrees, IsCriterionOf}
 use Rattle.std.proofs.Common.{Bor}
 use Rattle.std.specs.Prelude.{Ok, Err}
-use Rattle.wi_standard_functions.specs.Criterion as defined
+use Rattle.wi_standard_functions.specs.Inner.Criteria as defined
 use Rattle.wi_arguments.specs.declared.argument.Argument as given
 
 -- what `get` gives

@@ -1,8 +1,8 @@
 -- What SUMIF adds.
-use Rattle.wi_lookup_functions.proofs.Words.{◌≡◌, ℕ, Bool, true, false, cond, ◌||◌, List, [], ◌∷◌, map, filter, fold, Option, Some, None, IfSome, refl, sym, ap, ◌∙◌, subst, Result, zip, if◌then◌else◌, list_any, or_left, or_right, Area, cells_of, is_within, ErrorKind, BadValue, Value, Empty, Number, Argument, Region, region_of, region_at, region_or, value_at, addition, zero_number, no_error, same_size, chosen_cells, sum_of_items, sum_if_value, Item, from_cell, number_of_item, with_number, ◌>>=◌, and_then, Missing, Memory, arguments_in, refers_to, KnownAgrees, region_in, IsReferred, IsNextFilled, after_cells, IsNextAfter, known_agrees, taken_for_known, Criterion, criterion_held, is_met, empty_meets_none, Stop, NoValue, Error, Stopped, criterion_argument, Agrees, Gives, same_extent, same_place, values_where, with_cell, with_met, IsMissingInEither}
+use Rattle.wi_lookup_functions.proofs.Words.{◌≡◌, ℕ, Bool, true, false, cond, ◌||◌, List, [], ◌∷◌, map, filter, fold, Option, Some, None, IfSome, refl, sym, ap, ◌∙◌, subst, Result, zip, if◌then◌else◌, list_any, or_left, or_right, Area, cells_of, is_within, ErrorKind, BadValue, Value, Empty, Number, Argument, Region, region_of, region_at, region_or, value_at, addition, zero_number, no_error, same_size, meets_is, criterion_of, is_met_by, chosen_cells, sum_of_items, sum_if_value, Item, from_cell, number_of_item, with_number, ◌>>=◌, and_then, Missing, Memory, arguments_in, refers_to, KnownAgrees, region_in, IsReferred, IsNextFilled, after_cells, IsNextAfter, known_agrees, taken_for_known, Criterion, criterion_held, is_met, empty_meets_none, Stop, NoValue, Error, Stopped, criterion_argument, Agrees, Gives, same_extent, same_place, values_where, with_cell, with_met, IsMissingInEither}
 use Rattle.std.specs.Prelude.{Ok, Err}
 use Rattle.wi_fraction.specs.Number as numbers
-use Rattle.wi_standard_functions.specs.Criterion as defined
+use Rattle.wi_standard_functions.specs.Inner.Criteria as defined
 use Rattle.wi_arguments.specs.declared.argument.Argument as given
 use Rattle.wi_arguments.proofs.Walking as walk
 use Rattle.wi_lookup_functions.proofs.Extents.{cells_moved, same_place_inside}
@@ -113,11 +113,15 @@ from_region args r = no_error (value_at args 1) >>= (λ w. region_or (Ok r) args
 abbrev from_criterion : List Argument → Region → defined.Criterion → Value
 from_criterion args r d = region_or (Ok r) args 2 >>= (λ s. summed d r s)
 
+-- by the criterion in the place of its test
+by_tests : (args : List Argument) (r : Region) → (no_error (value_at args 1) >>= (λ w. region_or (Ok r) args 2 >>= (λ s. chosen_cells w r s >>= (λ items. sum_of_items items >>= (λ x. Number x))))) ≡ (no_error (value_at args 1) >>= (λ w. from_criterion args r (criterion_of w)))
+by_tests args r = λ i. no_error (value_at args 1) >>= (λ w. region_or (Ok r) args 2 >>= (λ s. (if same_size r s then Ok (values_where (λ v. meets_is w v i) r.values s.values) else Err BadValue) >>= (λ items. sum_of_items items >>= (λ x. Number x))))
+
 at_region : (args : List Argument) (o : Result Region ErrorKind) → region_at args 0 ≡ o → sum_if_value args ≡ (o >>= from_region args)
 at_region args o h = ap (λ (p : Result Region ErrorKind). p >>= from_region args) h
 
 at_criterion : (args : List Argument) (r : Region) (q : Result defined.Criterion ErrorKind) → region_at args 0 ≡ Ok r → criterion_argument (value_at args 1) ≡ q → sum_if_value args ≡ (q >>= from_criterion args r)
-at_criterion args r q h k = at_region args (Ok r) h ∙ by_criterion (no_error (value_at args 1)) (from_criterion args r) ∙ ap (λ (p : Result defined.Criterion ErrorKind). p >>= from_criterion args r) k
+at_criterion args r q h k = at_region args (Ok r) h ∙ by_tests args r ∙ by_criterion (no_error (value_at args 1)) (from_criterion args r) ∙ ap (λ (p : Result defined.Criterion ErrorKind). p >>= from_criterion args r) k
 
 at_added : (args : List Argument) (r : Region) (d : defined.Criterion) (p : Result Region ErrorKind) → region_at args 0 ≡ Ok r → criterion_argument (value_at args 1) ≡ Ok d → region_or (Ok r) args 2 ≡ p → sum_if_value args ≡ (p >>= (λ s. summed d r s))
 at_added args r d p h k m = at_criterion args r (Ok d) h k ∙ ap (λ (o : Result Region ErrorKind). o >>= (λ s. summed d r s)) m

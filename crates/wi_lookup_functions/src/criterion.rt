@@ -1,7 +1,8 @@
 //! Criteria (OpenFormula, "Criterion").
 
 ghost use Rattle.std.specs.Prelude.{◌≡◌, IfOk};
-ghost use Rattle.wi_standard_functions.specs.Criterion.{constant_of, criterion_by, criterion_of, equal_to, operators};
+ghost use Rattle.wi_standard_functions.specs.Criterion.{constant_of, operators};
+ghost use Rattle.wi_standard_functions.specs.Inner.Criteria.{criterion_by, criterion_of, equal_to};
 ghost use Rattle.wi_lookup_functions.specs.Inner.Meeting.{criterion_held, holds, holds_between_kinds, is_met, to_constant, IsRestAfter};
 
 use crate::matching::{can_be_found, match_order};

@@ -1,7 +1,8 @@
 //! INDEX (OpenFormula, "Lookup Functions").
 
 ghost use Rattle.std.specs.Prelude.{IfOk, IfErr};
-ghost use Rattle.wi_standard_functions.specs.Lookup.{index_along, index_by_both, index_value, nth_cell, nth_cell_along};
+ghost use Rattle.wi_standard_functions.specs.Lookup.{index_value, nth_cell};
+ghost use Rattle.wi_standard_functions.specs.Inner.Named.{index_along, index_by_both, nth_cell_along};
 ghost use Rattle.wi_arguments.specs.Arguments.{IsMissing, IsOfArguments};
 ghost use Rattle.wi_value_functions.specs.NoValues.{IfMissing};
 ghost use Rattle.wi_lookup_functions.specs.Inner.Finding.{Finds, IsPlacedIn};

@@ -2,7 +2,8 @@
 
 ghost use Rattle.std.specs.Prelude.{◌≡◌, true, None, Ok, IfOk, IfErr, if◌then◌else◌};
 ghost use Rattle.wi_standard_functions.specs.Arguments.{region_of};
-ghost use Rattle.wi_standard_functions.specs.Mathematical.{sum_if_value, sum_of_items};
+ghost use Rattle.wi_standard_functions.specs.Inner.Named.{sum_of_items};
+ghost use Rattle.wi_standard_functions.specs.Mathematical.{sum_if_value};
 ghost use Rattle.wi_value_functions.specs.NoValues.{IfMissing};
 ghost use Rattle.wi_arguments.specs.Arguments.{IsMissing, IsOfArguments};
 ghost use Rattle.wi_lookup_functions.specs.Inner.Meeting.{is_met};

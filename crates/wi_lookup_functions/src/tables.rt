@@ -1,7 +1,7 @@
 //! VLOOKUP and HLOOKUP (OpenFormula, "Lookup Functions").
 
 ghost use Rattle.std.specs.Prelude.{IfOk, IfErr};
-ghost use Rattle.wi_standard_functions.specs.Lookup.{h_lookup_value, v_lookup_value};
+ghost use Rattle.wi_standard_functions.specs.Inner.Named.{h_lookup_value, v_lookup_value};
 ghost use Rattle.wi_arguments.specs.Arguments.{IsMissing, IsOfArguments};
 ghost use Rattle.wi_value_functions.specs.NoValues.{IfMissing};
 ghost use Rattle.wi_lookup_functions.specs.Inner.Axis.{look_up_by};

@@ -10,14 +10,6 @@ use Rattle.wi_values.specs.declared.value.Value.{Value}
 use Rattle.wi_values.specs.declared.value.Value.TheVariants.{Text}
 use Rattle.wi_standard_functions.specs.Matching.{can_be_found, is_match, sought_for}
 
--- met by a value where the relation holds of the operand and the value
-pub record Criterion : Type 0 where
-  pub relation : Value → Value → Bool
-  pub operand : Value
-
-abbrev pub equal_to : Value → Criterion
-equal_to operand = record { relation = is_match is_eq; operand = operand }
-
 abbrev pub is_unequal : Value → Value → Bool
 is_unequal operand v = can_be_found v && not (is_match is_eq operand v)
 
@@ -36,17 +28,11 @@ operators =
 
 -- the relation of the first operator that the text begins with, to the constant that follows; else equality to the
 -- whole text's
-abbrev pub criterion_by : List (Bytes × (Value → Value → Bool)) → Bytes → Criterion
-criterion_by [] text = equal_to (constant_of text)
-criterion_by (o ∷ os) text =
-    if starts_with nat_eq text o.0 then record { relation = o.1; operand = constant_of (drop (length o.0) text) } else
-    criterion_by os text
+abbrev pub meets_text : List (Bytes × (Value → Value → Bool)) → Bytes → Value → Bool
+meets_text [] text v = is_match is_eq (constant_of text) v
+meets_text (o ∷ os) text v = if starts_with nat_eq text o.0 then o.1 (constant_of (drop (length o.0) text)) v else meets_text os text v
 
--- a value that is no Text stands for equality
-abbrev pub criterion_of : Value → Criterion
-criterion_of (Text text) = criterion_by operators text
-criterion_of v = equal_to (sought_for v)
-
--- the second value meets the criterion that the first is
+-- the second value meets the criterion that the first is; one that is no Text stands for equality
 abbrev pub meets_criterion : Value → Value → Bool
-meets_criterion w v = let c = criterion_of w in c.relation c.operand v
+meets_criterion (Text text) v = meets_text operators text v
+meets_criterion w v = is_match is_eq (sought_for w) v

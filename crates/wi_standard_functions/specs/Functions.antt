@@ -1,6 +1,7 @@
 -- The functions by their names, and what a call of one gives (OpenFormula, "Standard Operators and Functions").
-use Rattle.std.specs.Prelude.{ℕ, ◌&&◌, Bool, true, false, not, nat_le, List, [], ◌∷◌, length, map, find, codes, Option, Some, None, if◌then◌else◌}
+use Rattle.std.specs.Prelude.{ℕ, ◌&&◌, Bool, true, false, not, nat_le, List, [], ◌∷◌, length, find, codes, if◌then◌else◌}
 use Rattle.std.specs.List.{list_all, list_any}
+use Rattle.std.specs.Option.{option_map_or}
 use Rattle.std.specs.Ordering.{is_gt, is_lt}
 use Rattle.std.specs.Str.{bytes_eq}
 use Rattle.wi_fraction.specs.declared.rounding.Mode.TheVariants.{HalfAway, Away, Toward}
@@ -13,26 +14,25 @@ use Rattle.wi_standard_functions.specs.Arithmetic.{addition, calculated, exponen
 use Rattle.wi_standard_functions.specs.Convert.{zero_number, one_number}
 use Rattle.wi_standard_functions.specs.Information.{count_if_value, counted, is_empty_value, is_error_value, is_logical_value, is_not_available, is_number_value, is_text_value, value_value}
 use Rattle.wi_standard_functions.specs.Logical.{if_error_value, if_na_value, if_value, joined, not_value}
-use Rattle.wi_standard_functions.specs.Lookup.{choose_value, index_value, match_value, v_lookup_value, h_lookup_value}
+use Rattle.wi_standard_functions.specs.Lookup.{cell_in, choose_value, index_value, look_up_value, match_value}
 use Rattle.wi_standard_functions.specs.Mathematical.{abs_value, folded, mod_value, quotient_value, sign_value, sum_if_value, sum_product_value}
 use Rattle.wi_standard_functions.specs.Rounding.{int_value, round_value}
 use Rattle.wi_standard_functions.specs.Statistical.{average_value, extreme_value}
 use Rattle.wi_standard_functions.specs.Text.{len_value, left_value, right_value, mid_value, concatenate_value, exact_value, find_value, rept_value}
 
--- its name in capitals, how many parameters it has at least and at most (None is any number), and what it gives
+-- its name in capitals, which counts of parameters it takes, and what it gives
 pub record Function : Type 0 where
   pub name : Bytes
-  pub least : ℕ
-  pub greatest : Option ℕ
+  pub takes : ℕ → Bool
   pub value : List Argument → Value
 
 -- ---- rows of the table
 
 abbrev pub with_parameters : Bytes → ℕ → ℕ → (List Argument → Value) → Function
-with_parameters name least greatest value = record { name = name; least = least; greatest = Some greatest; value = value }
+with_parameters name least greatest value = record { name = name; takes = λ n. nat_le least n && nat_le n greatest; value = value }
 
 abbrev pub variadic : Bytes → ℕ → (List Argument → Value) → Function
-variadic name least value = record { name = name; least = least; greatest = None; value = value }
+variadic name least value = record { name = name; takes = nat_le least; value = value }
 
 abbrev pub one : Bytes → (Value → Value) → Function
 one name f = with_parameters name 1 1 (λ args. f (value_at args 0))
@@ -46,29 +46,20 @@ two_or name default f = with_parameters name 1 2 (λ args. f (value_at args 0) (
 abbrev pub test : Bytes → (Value → Bool) → Function
 test name holds = one name (λ v. Logical (holds v))
 
-abbrev pub of_three : (Value → Value → Value → Value) → List Argument → Value
-of_three f args = f (value_at args 0) (value_at args 1) (value_at args 2)
-
-abbrev pub of_three_or : Value → (Value → Value → Value → Value) → List Argument → Value
-of_three_or default f args = f (value_at args 0) (value_at args 1) (value_or default args 2)
-
-abbrev pub of_values : (List Value → Value) → List Argument → Value
-of_values f args = f (map (λ (a : Argument). a.value) args)
-
 unfoldable pub functions : List Function
 functions =
     one (codes "ABS") abs_value
     ∷ variadic (codes "AND") 1 (joined (list_all (λ b. b)))
     ∷ variadic (codes "AVERAGE") 1 average_value
     ∷ variadic (codes "CHOOSE") 2 choose_value
-    ∷ variadic (codes "CONCATENATE") 1 (of_values concatenate_value)
+    ∷ variadic (codes "CONCATENATE") 1 concatenate_value
     ∷ variadic (codes "COUNT") 1 (counted is_number_value)
     ∷ variadic (codes "COUNTA") 1 (counted (λ v. not (is_empty_value v)))
     ∷ with_parameters (codes "COUNTIF") 2 2 count_if_value
     ∷ two (codes "EXACT") exact_value
     ∷ with_parameters (codes "FALSE") 0 0 (λ args. Logical false)
-    ∷ with_parameters (codes "FIND") 2 3 (of_three_or (Number one_number) find_value)
-    ∷ with_parameters (codes "HLOOKUP") 3 4 h_lookup_value
+    ∷ with_parameters (codes "FIND") 2 3 find_value
+    ∷ with_parameters (codes "HLOOKUP") 3 4 (look_up_value (λ r. r.width) (λ r. r.height) (λ r column row. cell_in r row column))
     ∷ with_parameters (codes "IF") 1 3 if_value
     ∷ two (codes "IFERROR") if_error_value
     ∷ two (codes "IFNA") if_na_value
@@ -86,7 +77,7 @@ functions =
     ∷ one (codes "LEN") len_value
     ∷ with_parameters (codes "MATCH") 2 3 match_value
     ∷ variadic (codes "MAX") 1 (extreme_value is_gt)
-    ∷ with_parameters (codes "MID") 3 3 (of_three mid_value)
+    ∷ with_parameters (codes "MID") 3 3 mid_value
     ∷ variadic (codes "MIN") 1 (extreme_value is_lt)
     ∷ two (codes "MOD") mod_value
     ∷ with_parameters (codes "NA") 0 0 (λ args. Fault NotAvailable)
@@ -107,26 +98,11 @@ functions =
     ∷ with_parameters (codes "TRUE") 0 0 (λ args. Logical true)
     ∷ two_or (codes "TRUNC") (Number zero_number) (round_value Toward)
     ∷ one (codes "VALUE") value_value
-    ∷ with_parameters (codes "VLOOKUP") 3 4 v_lookup_value
+    ∷ with_parameters (codes "VLOOKUP") 3 4 (look_up_value (λ r. r.height) (λ r. r.width) cell_in)
     ∷ []
 
--- ---- calls
-
-unfoldable pub function_named : Bytes → Option Function
-function_named name = find (λ (f : Function). bytes_eq f.name name) functions
-
-abbrev pub is_not_above : ℕ → Option ℕ → Bool
-is_not_above n None = true
-is_not_above n (Some m) = nat_le n m
-
-abbrev pub has_parameters : Function → ℕ → Bool
-has_parameters f n = nat_le f.least n && is_not_above n f.greatest
-
--- an unknown name and a wrong count come before any argument
-abbrev pub value_of_call : Option Function → List Argument → Value
-value_of_call None args = Fault UnknownName
-value_of_call (Some f) args = if has_parameters f (length args) then f.value args else Fault BadValue
-
--- the name is in capitals
+-- The name is in capitals. An unknown one and a wrong count come before any argument.
 unfoldable pub call_value : Bytes → List Argument → Value
-call_value name args = value_of_call (function_named name) args
+call_value name args =
+    option_map_or (λ (f : Function). if f.takes (length args) then f.value args else Fault BadValue)
+    (find (λ (f : Function). bytes_eq f.name name) functions) (Fault UnknownName)

@@ -1,2 +1,3 @@
 -- Words of the code's own contracts. Nothing here needs belief.
+pub mod Criteria
 pub mod Named

@@ -44,22 +44,15 @@ nth_cell r j k =
       column ← position_among r.width k
       cell_in r row column)
 
--- the k-th cell of a region that is one column or one row
-abbrev pub nth_cell_along : Region → ℤ → Value
-nth_cell_along r k =
-    if r.width == 1 then nth_cell r k (pos 1) else
-    if r.height == 1 then nth_cell r (pos 1) k else
-    Fault BadValue
-
-abbrev pub index_by_both : List Argument → Value
-index_by_both args = do r ← region_at args 0; j ← to_whole (value_at args 1); k ← to_whole (value_at args 2); nth_cell r j k
-
-abbrev pub index_along : List Argument → Value
-index_along args = do r ← region_at args 0; k ← to_whole (value_at args 1); nth_cell_along r k
-
--- with three arguments by row and column, with two along the region
+-- with three arguments by row and column, with two along a region that is one column or one row
 abbrev pub index_value : List Argument → Value
-index_value args = if nat_le (length args) 2 then index_along args else index_by_both args
+index_value args = do
+  r ← region_at args 0
+  j ← to_whole (value_at args 1)
+  k ← to_whole (value_or (Number one_number) args 2)
+  (if nat_le 3 (length args) || r.width == 1 then nth_cell r j k else
+      if r.height == 1 then nth_cell r (pos 1) j else
+      Fault BadValue)
 
 -- ---- searches
 
@@ -76,7 +69,7 @@ match_value args = do
   i ← position_of match_type v vs
   whole_value (i + 1)
 
--- the k-th cell of the line whose first cell is found
+-- the k-th cell of the line whose first cell is found; the lines are rows, or columns
 abbrev pub look_up_value : (Region → ℕ) → (Region → ℕ) → (Region → ℕ → ℕ → Value) → List Argument → Value
 look_up_value lines width cell args = do
   v ← no_error (value_at args 0)
@@ -86,10 +79,3 @@ look_up_value lines width cell args = do
   i ← position_among (width r) k
   line ← position_of (if in_order then one_number else zero_number) v (map (λ l. cell r l 0) (range_with_len 0 (lines r)))
   cell r line i
-
--- the lines are rows, or columns
-abbrev pub v_lookup_value : List Argument → Value
-v_lookup_value = look_up_value (λ r. r.height) (λ r. r.width) cell_in
-
-abbrev pub h_lookup_value : List Argument → Value
-h_lookup_value = look_up_value (λ r. r.width) (λ r. r.height) (λ r column row. cell_in r row column)

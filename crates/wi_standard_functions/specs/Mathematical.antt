@@ -44,9 +44,6 @@ mod_value n m = do
 
 -- ---- of sequences
 
-abbrev pub sum_of_items : List Item → Result numbers.Number ErrorKind
-sum_of_items items = number_fold addition zero_number items
-
 -- SUM and PRODUCT
 abbrev pub folded : Operation → numbers.Number → List Argument → Value
 folded calculate start args = do x ← number_fold calculate start (sequence_of args); Number x
@@ -56,21 +53,16 @@ folded calculate start args = do x ← number_fold calculate start (sequence_of 
 abbrev pub same_size : Region → Region → Bool
 same_size r s = (r.height == s.height) && (r.width == s.width)
 
--- the second's cells where the first's meet the criterion
-abbrev pub chosen_cells : Value → Region → Region → Result (List Item) ErrorKind
-chosen_cells criterion r s =
-    if same_size r s
-    then Ok (map (λ p. from_cell p.1) (filter (λ p. meets_criterion criterion p.0) (zip r.values s.values)))
-    else Err BadValue
-
--- without a third region it is the first
+-- the third region's cells where the first's meet the criterion; without a third it is the first
 abbrev pub sum_if_value : List Argument → Value
 sum_if_value args = do
   r ← region_at args 0
   criterion ← no_error (value_at args 1)
   s ← region_or (Ok r) args 2
-  cells ← chosen_cells criterion r s
-  x ← sum_of_items cells
+  cells ← if same_size r s
+      then Ok (map (λ p. from_cell p.1) (filter (λ p. meets_criterion criterion p.0) (zip r.values s.values)))
+      else Err BadValue
+  x ← number_fold addition zero_number cells
   Number x
 
 abbrev pub of_one_size : List Region → Result (List Region) ErrorKind
@@ -88,17 +80,14 @@ product_at rs i = do
   x ← number_fold multiplication one_number (map (λ r. factor (unwrap_or (slice_get r.values i) Empty)) rs)
   Number x
 
--- as many as the first has
-abbrev pub position_count : List Region → ℕ
-position_count [] = 0
-position_count (r ∷ rs) = length r.values
-
+-- as many as the first has cells
 abbrev pub products : List Region → List Item
-products rs = map (λ i. scalar (product_at rs i)) (range_with_len 0 (position_count rs))
+products [] = []
+products (r ∷ rs) = map (λ i. scalar (product_at (r ∷ rs) i)) (range_with_len 0 (length r.values))
 
 abbrev pub sum_product_value : List Argument → Value
 sum_product_value args = do
   regions ← map_until_error region_referred args
   rs ← of_one_size regions
-  x ← sum_of_items (products rs)
+  x ← number_fold addition zero_number (products rs)
   Number x

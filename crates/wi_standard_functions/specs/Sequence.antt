@@ -1,6 +1,7 @@
 -- Sequences of items, as OpenFormula's NumberSequence and LogicalSequence, and what counts of them by this project's
 -- rules.
 use Rattle.std.specs.Prelude.{Bool, List, [], ◌∷◌, map, flat_map, Option, Some, None, option_to_list, Result, Ok, Err}
+use Rattle.std.specs.Option.{option_map_or}
 use Rattle.wi_fraction.specs.Number as numbers
 use Rattle.wi_values.specs.declared.value.ErrorKind.{ErrorKind}
 use Rattle.wi_values.specs.declared.value.Value.{Value}
@@ -16,12 +17,8 @@ pub data Item : Type 0 where
   scalar : Value → Item
 
 -- the cells of a reference, also of one cell, in row-major order
-abbrev pub items_of_one : Value → Option Region → List Item
-items_of_one v None = scalar v ∷ []
-items_of_one v (Some r) = map from_cell r.values
-
 abbrev pub sequence_of : List Argument → List Item
-sequence_of args = flat_map (λ (a : Argument). items_of_one a.value a.region) args
+sequence_of args = flat_map (λ (a : Argument). option_map_or (λ (r : Region). map from_cell r.values) a.region (scalar a.value ∷ [])) args
 
 abbrev pub value_of_item : Item → Value
 value_of_item (from_cell v) = v
@@ -46,16 +43,9 @@ logical_of_item (scalar v) = and_then (λ b. Ok (Some b)) (to_logical v)
 abbrev pub all_that_count : {B : Type 0} → (Item → Result (Option B) ErrorKind) → List Item → Result (List B) ErrorKind
 all_that_count counts items = and_then (λ found. Ok (flat_map option_to_list found)) (map_until_error counts items)
 
-abbrev pub numbers_of : List Item → Result (List numbers.Number) ErrorKind
-numbers_of items = all_that_count number_of_item items
-
 -- ---- the fold of a sequence
-
-abbrev pub with_number : Operation → numbers.Number → Option numbers.Number → Result numbers.Number ErrorKind
-with_number calculate x None = Ok x
-with_number calculate x (Some y) = calculate x y
 
 -- the first error met, also of a step, is the result
 abbrev pub number_fold : Operation → numbers.Number → List Item → Result numbers.Number ErrorKind
 number_fold calculate start items =
-    fold_until_error (λ x item. and_then (with_number calculate x) (number_of_item item)) start items
+    fold_until_error (λ x item. and_then (λ found. option_map_or (calculate x) found (Ok x)) (number_of_item item)) start items

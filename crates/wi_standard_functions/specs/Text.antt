@@ -1,12 +1,13 @@
 -- OpenFormula, "Text Functions". Characters are Unicode scalar values.
-use Rattle.std.specs.Prelude.{ℕ, ℤ, pos, ◌+◌, ◌-◌, nat_eq, nat_le, int_lt, unsigned_abs, List, take, drop, length, find, chars, bytes_eq, encode_utf8_all, Option, None, option_map, Result, Ok, Err, ok_or, if◌then◌else◌}
+use Rattle.std.specs.Prelude.{ℕ, ℤ, pos, ◌+◌, ◌-◌, nat_eq, nat_le, int_lt, unsigned_abs, List, take, drop, length, map, find, chars, bytes_eq, encode_utf8_all, Option, None, option_map, Result, Ok, Err, ok_or, if◌then◌else◌}
 use Rattle.std.specs.List.{concat, repeat, starts_with, range_with_len}
 use Rattle.wi_values.specs.declared.value.ErrorKind.{ErrorKind}
 use Rattle.wi_values.specs.declared.value.ErrorKind.TheVariants.{BadValue}
 use Rattle.wi_values.specs.declared.value.Value.{Value}
-use Rattle.wi_values.specs.declared.value.Value.TheVariants.{Logical}
+use Rattle.wi_values.specs.declared.value.Value.TheVariants.{Logical, Number}
+use Rattle.wi_standard_functions.specs.Arguments.{Argument, value_at, value_or}
 use Rattle.wi_standard_functions.specs.Arithmetic.{whole_value, limited_text}
-use Rattle.wi_standard_functions.specs.Convert.{to_text, to_whole}
+use Rattle.wi_standard_functions.specs.Convert.{to_text, to_whole, one_number}
 use Rattle.wi_standard_functions.specs.Steps.{◌>>=◌, map_until_error}
 
 abbrev pub at_least : ℕ → ℤ → Result ℕ ErrorKind
@@ -24,18 +25,18 @@ left_value t count = do s ← to_text t; k ← to_whole count; n ← at_least 0 
 abbrev pub right_value : Value → Value → Value
 right_value t count = do s ← to_text t; k ← to_whole count; n ← at_least 0 k; of_chars (drop (length (chars s) - n) (chars s))
 
--- `start` counts from 1
-abbrev pub mid_value : Value → Value → Value → Value
-mid_value t start count = do
-  s ← to_text t
-  j ← to_whole start
-  k ← to_whole count
+-- the second counts from 1
+abbrev pub mid_value : List Argument → Value
+mid_value args = do
+  s ← to_text (value_at args 0)
+  j ← to_whole (value_at args 1)
+  k ← to_whole (value_at args 2)
   first ← at_least 1 j
   n ← at_least 0 k
   of_chars (take n (drop (first - 1) (chars s)))
 
-abbrev pub concatenate_value : List Value → Value
-concatenate_value vs = do ts ← map_until_error to_text vs; limited_text (concat ts)
+abbrev pub concatenate_value : List Argument → Value
+concatenate_value args = do ts ← map_until_error to_text (map (λ (a : Argument). a.value) args); limited_text (concat ts)
 
 abbrev pub exact_value : Value → Value → Value
 exact_value t u = do s ← to_text t; r ← to_text u; Logical (bytes_eq s r)
@@ -49,12 +50,12 @@ first_position sought cs = find (λ i. starts_with nat_eq (drop i cs) sought) (r
 abbrev pub position_from : ℕ → List ℕ → List ℕ → Option ℕ
 position_from from sought cs = if nat_le from (length cs) then option_map (λ i. from + i) (first_position sought (drop from cs)) else None
 
--- `start` counts from 1
-abbrev pub find_value : Value → Value → Value → Value
-find_value t u start = do
-  sought ← to_text t
-  s ← to_text u
-  k ← to_whole start
+-- the third, 1 by default, counts from 1
+abbrev pub find_value : List Argument → Value
+find_value args = do
+  sought ← to_text (value_at args 0)
+  s ← to_text (value_at args 1)
+  k ← to_whole (value_or (Number one_number) args 2)
   from ← at_least 1 k
   i ← ok_or (position_from (from - 1) (chars sought) (chars s)) BadValue
   whole_value (i + 1)

@@ -1,5 +1,5 @@
 -- A function is found by its name among rows in the order of `functions`.
-use Rattle.wi_value_functions.proofs.Words.{◌≡◌, ℕ, Bool, true, false, ◌&&◌, List, [], ◌∷◌, length, get_or, ◌<◌, ◌≤◌, Option, if◌then◌else◌, refl, sym, ap, ◌∙◌, subst, map-map, map, find, option_map, slice_cmp, AllByRecursion, is_lt, nat_cmp, bytes_eq, and_parts, exact_bytes, Ordering, Less, Equal, Greater, BadValue, UnknownName, Fault, Argument, functions as all_functions, function_named, has_parameters, call_value, value_of_call}
+use Rattle.wi_value_functions.proofs.Words.{◌≡◌, ℕ, Bool, true, false, ◌&&◌, List, [], ◌∷◌, length, get_or, ◌<◌, ◌≤◌, Option, if◌then◌else◌, refl, sym, ap, ◌∙◌, subst, map-map, map, find, option_map, slice_cmp, AllByRecursion, is_lt, nat_cmp, bytes_eq, and_parts, exact_bytes, Ordering, Less, Equal, Greater, BadValue, UnknownName, Fault, Argument, Value, nat_le, and-true, option_map_or, functions as all_functions, function_named, is_not_above, takes_between, call_value}
 use Rattle.std.proofs.Common.{Some, None}
 use Rattle.std.specs.List.Sorted.{IsStrictlySortedBy}
 use Rattle.wi_standard_functions.specs.Functions as functions
@@ -63,20 +63,30 @@ module _ {X : Type 0} (function : X → functions.Function) (rows : List X) (are
     pub none_found : (from to : ℕ) → IsWithin (λ x. (function x).name) name rows from to → to ≤ from → function_named name ≡ None
     none_found from to within none = by_row None (nowhere (λ x. (function x).name) name rows from to within none)
 
+-- ---- which counts a row takes
+
+pub between : (least : ℕ) (greatest : Option ℕ) (n : ℕ) → takes_between least greatest n ≡ (nat_le least n && is_not_above n greatest)
+between least None n = sym (and-true (nat_le least n))
+between least (Some m) n = refl
+
 -- ---- what a call gives, by what is found
 
 module _ (name : List ℕ) (args : List Argument) where
+  -- of the function that is found
+  abbrev called : Option functions.Function → Value
+  called o = option_map_or (λ (f : functions.Function). if f.takes (length args) then f.value args else Fault BadValue) o (Fault UnknownName)
+
   pub call_unknown : function_named name ≡ None → call_value name args ≡ Fault UnknownName
-  unfolding call_value
-  call_unknown e = ap (λ o. value_of_call o args) e
+  unfolding call_value function_named
+  call_unknown e = ap called e
 
   module _ (f : functions.Function) (found : function_named name ≡ Some f) where
-    by_count : (b : Bool) → has_parameters f (length args) ≡ b → call_value name args ≡ (if b then f.value args else Fault BadValue)
-    unfolding call_value
-    by_count b e = ap (λ o. value_of_call o args) found ∙ ap (λ (c : Bool). if c then f.value args else Fault BadValue) e
+    by_count : (b : Bool) → f.takes (length args) ≡ b → call_value name args ≡ (if b then f.value args else Fault BadValue)
+    unfolding call_value function_named
+    by_count b e = ap called found ∙ ap (λ (c : Bool). if c then f.value args else Fault BadValue) e
 
-    pub call_taken : has_parameters f (length args) ≡ true → call_value name args ≡ f.value args
+    pub call_taken : f.takes (length args) ≡ true → call_value name args ≡ f.value args
     call_taken e = by_count true e
 
-    pub call_refused : has_parameters f (length args) ≡ false → call_value name args ≡ Fault BadValue
+    pub call_refused : f.takes (length args) ≡ false → call_value name args ≡ Fault BadValue
     call_refused e = by_count false e

@@ -1,5 +1,5 @@
 -- The parts of a text, once its characters and the numbers are found.
-use Rattle.wi_value_functions.proofs.Words.{◌≡◌, sym, ap, ◌∙◌, ℕ, ◌-◌, List, take, drop, length, chars, ℤ, Ok, IsUtf8, limited_text, to_text, to_whole, ◌>>=◌, at_least, of_chars, left_value, right_value, mid_value, Value}
+use Rattle.wi_value_functions.proofs.Words.{◌≡◌, sym, ap, ◌∙◌, ℕ, ◌-◌, List, take, drop, length, chars, ℤ, Ok, IsUtf8, limited_text, to_text, to_whole, ◌>>=◌, at_least, of_chars, left_value, right_value, mid_of, Value}
 use Rattle.wi_value_functions.proofs.Counting.{spelled}
 
 part_is : (t count : Value) (f : ℕ → List ℕ → List ℕ) (s part : List ℕ) (k : ℤ) (n : ℕ) → to_text t ≡ Ok s → to_whole count ≡ Ok k → at_least 0 k ≡ Ok n
@@ -21,7 +21,7 @@ right_is t count = part_is t count (λ m cs. drop (length cs - m) cs)
 
 pub mid_is : (t place count : Value) (s rest part : List ℕ) (j k : ℤ) (first n : ℕ) → to_text t ≡ Ok s → to_whole place ≡ Ok j → to_whole count ≡ Ok k
     → at_least 1 j ≡ Ok first → at_least 0 k ≡ Ok n → IsUtf8 part → chars rest ≡ drop (first - 1) (chars s) → chars part ≡ take n (chars rest)
-    → limited_text part ≡ mid_value t place count
+    → limited_text part ≡ mid_of t place count
 mid_is t place count s rest part j k first n e f g a b u r is =
     spelled part (take n (drop (first - 1) (chars s))) u (is ∙ ap (take n) r)
     ∙ sym (ap (λ q. q >>= (λ m. of_chars (take m (drop (first - 1) (chars s))))) b)

@@ -1,5 +1,5 @@
 -- A function of values gives what it gives for the arguments' values, whether they are those of references or not.
-use Rattle.wi_value_functions.proofs.Words.{◌≡◌, ℕ, zero, suc, List, [], ◌∷◌, refl, ap, map, Argument, value_or, of_one, of_two_or, of_three_or, zero_value, one_value, power_value, not_value, value_value, abs_value, sign_value, quotient_value, mod_value, int_value, round_value, len_value, left_value, right_value, mid_value, concatenate_value, exact_value, find_value, rept_value, Value as AnyValue, Empty, Logical, applied_to_arguments, applied_to_values, arguments_of, passes, Values, Concatenate, Exact, Find, Left, Len, Mid, Rept, Right, ValueFunction, Abs, False, Int, Is, Mod, Na, Not, Power, Quotient, Round, Sign, True}
+use Rattle.wi_value_functions.proofs.Words.{◌≡◌, ℕ, zero, suc, List, [], ◌∷◌, refl, ap, map, Argument, value_or, of_one, of_two_or, of_three_or, zero_value, one_value, power_value, not_value, value_value, abs_value, sign_value, quotient_value, mod_value, int_value, round_value, len_value, left_value, right_value, mid_of, concatenated, exact_value, find_of, rept_value, Value as AnyValue, Empty, Logical, applied_to_arguments, applied_to_values, arguments_of, passes, Values, Concatenate, Exact, Find, Left, Len, Mid, Rept, Right, ValueFunction, Abs, False, Int, Is, Mod, Na, Not, Power, Quotient, Round, Sign, True}
 use Rattle.wi_value_functions.specs.declared.function.ValueFunction.TheVariants.{Text, Value}
 
 -- the arguments' values
@@ -46,11 +46,11 @@ values_alone (Round mode) args = two_or zero_value (round_value mode) args
 values_alone Sign args = one sign_value args
 values_alone True args = refl
 values_alone Value args = one value_value args
-values_alone (Text Concatenate) args = ap concatenate_value (same_values args)
+values_alone (Text Concatenate) args = ap concatenated (same_values args)
 values_alone (Text Exact) args = two_or Empty exact_value args
-values_alone (Text Find) args = three_or one_value find_value args
+values_alone (Text Find) args = three_or one_value find_of args
 values_alone (Text Left) args = two_or one_value left_value args
 values_alone (Text Len) args = one len_value args
-values_alone (Text Mid) args = three_or Empty mid_value args
+values_alone (Text Mid) args = three_or Empty mid_of args
 values_alone (Text Rept) args = two_or Empty rept_value args
 values_alone (Text Right) args = two_or one_value right_value args

@@ -2,6 +2,7 @@
 pub use Rattle.std.proofs.Common.{Bool, FitsSigned, IfOk, List, Option, [], ap, arith, chars, cond, drop, false, get_or, if◌then◌else◌, inl, inr, length, length-append, refl, rules, slice_get, subst, suc, sym, take, true, zero, ℕ, ⊎_elim, ◌&&◌, ◌*◌, ◌++◌, ◌+◌, ◌-◌, ◌/◌, ◌<◌, ◌∙◌, ◌∷◌, ◌≡◌, ◌≤◌}
 pub use Rattle.std.proofs.Math.Nat.{mul-le-mul_right, sub-add-min_cancel}
 pub use Rattle.std.proofs.Math.Seq.{drop-append_seam, drop-drop, take-append_seam}
+pub use Rattle.std.proofs.Math.Bool.{and-true}
 pub use Rattle.std.proofs.lemmas.Bool.{and_parts, cases_lt, cases_order, false_from_ne_true, le-leb, lt-leb}
 pub use Rattle.std.proofs.lemmas.Bool.Decides.{nat_tests}
 pub use Rattle.std.proofs.lemmas.Cmp.{nat_list_cmp_total, ranked, tied_itself}
@@ -19,6 +20,7 @@ pub use Rattle.std.specs.Cmp.Lexicographic.{slice_cmp}
 pub use Rattle.std.specs.Int.{w128}
 pub use Rattle.std.specs.List.{AllByRecursion, concat, range_with_len, repeat, starts_with}
 pub use Rattle.std.specs.List.Sorted.{IsStrictlySortedBy}
+pub use Rattle.std.specs.Option.{option_map_or}
 pub use Rattle.std.specs.Ordering.{is_eq, is_lt, is_ne, nat_cmp, ordering_reverse, ordering_then}
 pub use Rattle.std.specs.Prelude.{Err, MatchOption, None, Ok, Result, Some, encode_utf8_all, find, map, min, nat_eq, nat_le, option_map, pos, string_bytes, unsigned_abs, unwrap_or, ℤ, ◌*ℤ◌, ◌^◌}
 pub use Rattle.std.specs.Str.{IsCharBoundary, IsUtf8, bytes_eq}
@@ -39,20 +41,20 @@ pub use Rattle.wi_fraction.specs.declared.rounding.Mode.TheVariants.{Toward}
 pub use Rattle.wi_standard_functions.specs.Arguments.{Argument, value_or}
 pub use Rattle.wi_standard_functions.specs.Arithmetic.{fitting, limited_text, whole_number, whole_value}
 pub use Rattle.wi_standard_functions.specs.Convert.{to_text, to_whole}
-pub use Rattle.wi_standard_functions.specs.Functions.{has_parameters, of_three_or, value_of_call}
-unfoldable pub use Rattle.wi_standard_functions.specs.Functions.{call_value, function_named, functions}
+unfoldable pub use Rattle.wi_standard_functions.specs.Functions.{call_value, functions}
 pub use Rattle.wi_standard_functions.specs.Information.{value_value}
-pub use Rattle.wi_standard_functions.specs.Inner.Named.{of_one, of_two_or, one_value, power_value, zero_value}
+pub use Rattle.wi_standard_functions.specs.Inner.Named.{concatenated, find_of, mid_of, of_one, of_three_or, of_two_or, one_value, power_value, zero_value}
 pub use Rattle.wi_standard_functions.specs.Logical.{not_value}
 pub use Rattle.wi_standard_functions.specs.Mathematical.{abs_value, mod_value, quotient_value, sign_value}
 pub use Rattle.wi_standard_functions.specs.Rounding.{int_value, round_value}
 pub use Rattle.wi_standard_functions.specs.Steps.{and_then, map_until_error, ◌>>=◌}
-pub use Rattle.wi_standard_functions.specs.Text.{at_least, concatenate_value, exact_value, find_value, first_position, left_value, len_value, mid_value, of_chars, rept_value, right_value}
+pub use Rattle.wi_standard_functions.specs.Text.{at_least, exact_value, first_position, left_value, len_value, of_chars, rept_value, right_value}
 pub use Rattle.wi_value_functions.specs.Applied.{applied_to_arguments, applied_to_values, arguments_of, passes}
 pub use Rattle.wi_value_functions.specs.NoValues.{Gives}
 pub use Rattle.wi_value_functions.specs.Inner.Counts.{IsCut, counted}
 pub use Rattle.wi_value_functions.specs.Inner.Gives.{Agrees, EndsWith}
-pub use Rattle.wi_value_functions.specs.Inner.Rows.{function_of}
+pub use Rattle.wi_value_functions.specs.Inner.Rows.{function_of, is_not_above, takes_between}
+unfoldable pub use Rattle.wi_value_functions.specs.Inner.Rows.{function_named}
 pub use Rattle.wi_value_functions.specs.declared.no_value.NoValue.{NoValue}
 pub use Rattle.wi_value_functions.specs.declared.no_value.NoValue.TheVariants.{Error, Stopped}
 pub use Rattle.wi_value_functions.specs.declared.function.Function.TheVariants.{Values}

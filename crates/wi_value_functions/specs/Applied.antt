@@ -2,15 +2,14 @@
 use Rattle.std.specs.Prelude.{Bool, List, map, None}
 use Rattle.wi_values.specs.declared.value.Value.{Value as AnyValue}
 use Rattle.wi_standard_functions.specs.Arguments.{Argument}
-use Rattle.wi_standard_functions.specs.Functions.{of_three, of_three_or, of_values}
-use Rattle.wi_standard_functions.specs.Inner.Named.{and_value, count_a_value, count_value, false_value, is_no_text, is_other_error, max_value, min_value, na_value, of_none, of_one, of_test, of_two, of_two_or, one_value, or_value, power_value, product_value, sum_value, true_value, zero_value}
+use Rattle.wi_standard_functions.specs.Inner.Named.{and_value, count_a_value, count_value, concatenated, false_value, find_of, h_lookup_value, is_no_text, is_other_error, max_value, mid_of, min_value, na_value, of_none, of_one, of_test, of_three, of_three_or, of_two, of_two_or, of_values, one_value, or_value, power_value, product_value, sum_value, true_value, v_lookup_value, zero_value}
 use Rattle.wi_standard_functions.specs.Information.{count_if_value, is_empty_value, is_number_value, is_text_value, is_logical_value, is_error_value, is_not_available, value_value}
 use Rattle.wi_standard_functions.specs.Logical.{not_value, if_value, if_error_value, if_na_value}
-use Rattle.wi_standard_functions.specs.Lookup.{choose_value, index_value, match_value, v_lookup_value, h_lookup_value}
+use Rattle.wi_standard_functions.specs.Lookup.{choose_value, index_value, match_value}
 use Rattle.wi_standard_functions.specs.Mathematical.{abs_value, sign_value, quotient_value, mod_value, sum_if_value, sum_product_value}
 use Rattle.wi_standard_functions.specs.Rounding.{int_value, round_value}
 use Rattle.wi_standard_functions.specs.Statistical.{average_value}
-use Rattle.wi_standard_functions.specs.Text.{len_value, left_value, right_value, mid_value, concatenate_value, exact_value, find_value, rept_value}
+use Rattle.wi_standard_functions.specs.Text.{len_value, left_value, right_value, exact_value, rept_value}
 use Rattle.wi_value_functions.specs.declared.function.Function.{Function}
 use Rattle.wi_value_functions.specs.declared.function.Function.TheVariants.{Lazy, Values, References}
 use Rattle.wi_value_functions.specs.declared.function.LazyFunction.TheVariants.{If, IfError, IfNa, Choose}
@@ -53,12 +52,12 @@ applied_to_arguments (Values (Round mode)) args = of_two_or zero_value (round_va
 applied_to_arguments (Values Sign) args = of_one sign_value args
 applied_to_arguments (Values True) args = of_none true_value args
 applied_to_arguments (Values Value) args = of_one value_value args
-applied_to_arguments (Values (Text Concatenate)) args = of_values concatenate_value args
+applied_to_arguments (Values (Text Concatenate)) args = of_values concatenated args
 applied_to_arguments (Values (Text Exact)) args = of_two exact_value args
-applied_to_arguments (Values (Text Find)) args = of_three_or one_value find_value args
+applied_to_arguments (Values (Text Find)) args = of_three_or one_value find_of args
 applied_to_arguments (Values (Text Left)) args = of_two_or one_value left_value args
 applied_to_arguments (Values (Text Len)) args = of_one len_value args
-applied_to_arguments (Values (Text Mid)) args = of_three mid_value args
+applied_to_arguments (Values (Text Mid)) args = of_three mid_of args
 applied_to_arguments (Values (Text Rept)) args = of_two rept_value args
 applied_to_arguments (Values (Text Right)) args = of_two_or one_value right_value args
 applied_to_arguments (References (Fold And)) args = and_value args

@@ -5,9 +5,9 @@ ghost use Rattle.std.specs.Cmp.Lexicographic.{slice_cmp};
 ghost use Rattle.std.specs.Ordering.{nat_cmp};
 ghost use Rattle.wi_values.specs.declared.value.Value.TheVariants.{Fault};
 ghost use Rattle.wi_standard_functions.specs.Arguments.{Argument};
-ghost use Rattle.wi_standard_functions.specs.Functions.{call_value, function_named, functions, is_not_above};
+ghost use Rattle.wi_standard_functions.specs.Functions.{call_value, functions};
 ghost use Rattle.wi_value_functions.specs.Applied.{applied_to_arguments};
-ghost use Rattle.wi_value_functions.specs.Inner.Rows.{function_of};
+ghost use Rattle.wi_value_functions.specs.Inner.Rows.{function_named, function_of, is_not_above};
 
 use crate::function::FoldFunction::{And, Average, Count, CountA, Max, Min, Or, Product, Sum};
 use crate::function::Function::{self, Lazy, References, Values};

@@ -4,7 +4,8 @@ use Rattle.std.specs.Prelude.{List, fold, Result}
 use Rattle.wi_values.specs.declared.value.ErrorKind.{ErrorKind}
 use Rattle.wi_values.specs.declared.value.Value.{Value}
 use Rattle.wi_standard_functions.specs.Arguments.{Argument}
-use Rattle.wi_standard_functions.specs.Sequence.{Item, from_cell, scalar, items_of_one}
+use Rattle.wi_standard_functions.specs.Inner.Named.{items_of_one}
+use Rattle.wi_standard_functions.specs.Sequence.{Item, from_cell, scalar}
 use Rattle.wi_standard_functions.specs.Steps.{◌>>=◌, and_then}
 use Rattle.wi_fold_functions.specs.declared.item.Item as code
 

@@ -8,8 +8,8 @@ use Rattle.wi_values.specs.declared.value.Value.TheVariants.{Number, Logical, Fa
 use Rattle.wi_standard_functions.specs.Arithmetic.{addition, multiplication, division, whole_number}
 use Rattle.wi_standard_functions.specs.Convert.{zero_number}
 use Rattle.wi_standard_functions.specs.Information.{is_empty_value, is_number_value}
-use Rattle.wi_standard_functions.specs.Sequence.{Item, number_of_item, logical_of_item, value_of_item, with_number}
-use Rattle.wi_standard_functions.specs.Inner.Named.{smaller_number, greater_number}
+use Rattle.wi_standard_functions.specs.Sequence.{Item, number_of_item, logical_of_item, value_of_item}
+use Rattle.wi_standard_functions.specs.Inner.Named.{smaller_number, greater_number, with_number}
 use Rattle.wi_standard_functions.specs.Steps.{◌>>=◌, and_then}
 use Rattle.wi_value_functions.specs.Inner.Counts.{counted}
 use Rattle.wi_fold_functions.specs.declared.information.FilledCount.{FilledCount}

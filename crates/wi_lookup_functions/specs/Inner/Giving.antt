@@ -4,8 +4,8 @@ use Rattle.wi_values.specs.declared.value.ErrorKind.{ErrorKind}
 use Rattle.wi_values.specs.declared.value.Value.{Value}
 use Rattle.wi_values.specs.declared.value.Value.TheVariants.{Fault}
 use Rattle.wi_standard_functions.specs.Arguments.{Argument}
-use Rattle.wi_standard_functions.specs.Criterion as defined
-use Rattle.wi_standard_functions.specs.Criterion.{criterion_of}
+use Rattle.wi_standard_functions.specs.Inner.Criteria as defined
+use Rattle.wi_standard_functions.specs.Inner.Criteria.{criterion_of}
 use Rattle.wi_standard_functions.specs.FirstError.{no_error}
 use Rattle.wi_standard_functions.specs.Steps.{and_then}
 use Rattle.wi_arguments.specs.declared.argument.Argument as given

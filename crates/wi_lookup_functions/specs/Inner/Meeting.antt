@@ -6,7 +6,7 @@ use Rattle.std.specs.Ordering.{is_eq, is_ne, is_lt, is_le, is_gt, is_ge}
 use Rattle.std.specs.declared.cmp.Ordering.{Ordering}
 use Rattle.wi_values.specs.declared.value.Value.{Value}
 use Rattle.wi_values.specs.declared.value.Value.TheVariants.{Empty}
-use Rattle.wi_standard_functions.specs.Criterion as defined
+use Rattle.wi_standard_functions.specs.Inner.Criteria as defined
 use Rattle.wi_standard_functions.specs.Criterion.{is_unequal, constant_of}
 use Rattle.wi_standard_functions.specs.Matching.{is_match}
 use Rattle.wi_lookup_functions.specs.declared.criterion.Criterion.{Criterion}

@@ -7,8 +7,9 @@ use Rattle.wi_values.specs.declared.value.Value.{Value}
 use Rattle.wi_standard_functions.specs.Arguments.{Region}
 use Rattle.wi_standard_functions.specs.Arithmetic.{addition, multiplication}
 use Rattle.wi_standard_functions.specs.Convert.{zero_number, one_number}
-use Rattle.wi_standard_functions.specs.Mathematical.{factor, of_one_size, products, sum_of_items}
-use Rattle.wi_standard_functions.specs.Sequence.{number_of_item, with_number}
+use Rattle.wi_standard_functions.specs.Inner.Named.{sum_of_items, with_number}
+use Rattle.wi_standard_functions.specs.Mathematical.{factor, of_one_size, products}
+use Rattle.wi_standard_functions.specs.Sequence.{number_of_item}
 use Rattle.wi_standard_functions.specs.Steps.{and_then, map_until_error}
 use Rattle.wi_arguments.specs.declared.argument.Argument as given
 use Rattle.wi_value_functions.specs.declared.no_value.Stop.TheVariants.{Memory}

@@ -5,7 +5,8 @@ use Rattle.wi_values.specs.Address.{Area, is_within, place, row_of, column_of, h
 use Rattle.wi_values.specs.declared.value.ErrorKind.{ErrorKind}
 use Rattle.wi_values.specs.declared.value.Value.{Value}
 use Rattle.wi_standard_functions.specs.Arithmetic.{addition}
-use Rattle.wi_standard_functions.specs.Sequence.{Item, from_cell, number_of_item, with_number}
+use Rattle.wi_standard_functions.specs.Inner.Named.{with_number}
+use Rattle.wi_standard_functions.specs.Sequence.{Item, from_cell, number_of_item}
 use Rattle.wi_standard_functions.specs.Steps.{and_then}
 use Rattle.wi_lookup_functions.specs.declared.criterion.Criterion.{Criterion}
 use Rattle.wi_lookup_functions.specs.Inner.Meeting.{is_met}

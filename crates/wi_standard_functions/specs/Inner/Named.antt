@@ -1,6 +1,7 @@
 -- Parts of the definitions by names of their own.
-use Rattle.std.specs.Prelude.{ℕ, Bool, true, false, not, ◌&&◌, ◌||◌, ◌==◌, Result, Ok, Err, List, Option, option_map, if◌then◌else◌}
-use Rattle.std.specs.List.{list_all, list_any}
+use Rattle.std.specs.Prelude.{ℕ, ℤ, pos, ◌+◌, ◌-◌, Bool, true, false, not, ◌&&◌, ◌||◌, ◌==◌, Result, Ok, Err, List, [], ◌∷◌, map, filter, zip, take, drop, chars, Option, option_map, ok_or, if◌then◌else◌}
+use Rattle.std.specs.List.{concat, list_all, list_any}
+use Rattle.std.specs.Option.{option_map_or}
 use Rattle.std.specs.Ordering.{is_lt, is_gt}
 use Rattle.wi_fraction.specs.Number as numbers
 use Rattle.wi_fraction.specs.Order.{cross_cmp}
@@ -9,13 +10,18 @@ use Rattle.wi_values.specs.declared.value.ErrorKind.{ErrorKind}
 use Rattle.wi_values.specs.declared.value.ErrorKind.TheVariants.{BadValue, NotAvailable}
 use Rattle.wi_values.specs.declared.value.Value.{Value}
 use Rattle.wi_values.specs.declared.value.Value.TheVariants.{Number, Logical, Fault}
-use Rattle.wi_standard_functions.specs.Arguments.{Argument, Region, region_of, value_at, value_or}
-use Rattle.wi_standard_functions.specs.Arithmetic.{addition, calculated, exponentiation, multiplication}
-use Rattle.wi_standard_functions.specs.Convert.{zero_number, one_number}
+use Rattle.wi_standard_functions.specs.Arguments.{Argument, Region, region_at, region_of, value_at, value_or}
+use Rattle.wi_standard_functions.specs.Arithmetic.{Operation, addition, calculated, exponentiation, limited_text, multiplication, whole_value}
+use Rattle.wi_standard_functions.specs.Convert.{zero_number, one_number, to_text, to_whole}
+use Rattle.wi_standard_functions.specs.Criterion.{meets_criterion}
 use Rattle.wi_standard_functions.specs.Information.{counted, is_empty_value, is_error_value, is_not_available, is_number_value, is_text_value}
 use Rattle.wi_standard_functions.specs.Logical.{joined}
 use Rattle.wi_standard_functions.specs.Statistical.{extreme_value}
-use Rattle.wi_standard_functions.specs.Mathematical.{folded}
+use Rattle.wi_standard_functions.specs.Lookup.{cell_in, look_up_value, nth_cell}
+use Rattle.wi_standard_functions.specs.Mathematical.{folded, same_size}
+use Rattle.wi_standard_functions.specs.Sequence.{Item, all_that_count, from_cell, number_fold, number_of_item, scalar}
+use Rattle.wi_standard_functions.specs.Steps.{◌>>=◌, map_until_error}
+use Rattle.wi_standard_functions.specs.Text.{at_least, of_chars, position_from}
 
 abbrev pub of_none : Value → List Argument → Value
 of_none v args = v
@@ -45,6 +51,76 @@ is_no_text v = not (is_text_value v)
 abbrev pub is_other_error : Value → Bool
 is_other_error v = is_error_value v && not (is_not_available v)
 
+-- ---- what sequences, sums and look-ups are made of
+
+-- the cells of a reference, or another argument by itself
+abbrev pub items_of_one : Value → Option Region → List Item
+items_of_one v region = option_map_or (λ (r : Region). map from_cell r.values) region (scalar v ∷ [])
+
+abbrev pub numbers_of : List Item → Result (List numbers.Number) ErrorKind
+numbers_of items = all_that_count number_of_item items
+
+-- with one more number, if there is one
+abbrev pub with_number : Operation → numbers.Number → Option numbers.Number → Result numbers.Number ErrorKind
+with_number calculate x found = option_map_or (calculate x) found (Ok x)
+
+abbrev pub sum_of_items : List Item → Result numbers.Number ErrorKind
+sum_of_items items = number_fold addition zero_number items
+
+-- the second's cells where the first's meet the criterion
+abbrev pub chosen_cells : Value → Region → Region → Result (List Item) ErrorKind
+chosen_cells criterion r s =
+    if same_size r s
+    then Ok (map (λ p. from_cell p.1) (filter (λ p. meets_criterion criterion p.0) (zip r.values s.values)))
+    else Err BadValue
+
+-- the k-th cell of a region that is one column or one row
+abbrev pub nth_cell_along : Region → ℤ → Value
+nth_cell_along r k =
+    if r.width == 1 then nth_cell r k (pos 1) else
+    if r.height == 1 then nth_cell r (pos 1) k else
+    Fault BadValue
+
+-- INDEX of three arguments, and of two
+abbrev pub index_by_both : List Argument → Value
+index_by_both args = do r ← region_at args 0; j ← to_whole (value_at args 1); k ← to_whole (value_at args 2); nth_cell r j k
+
+abbrev pub index_along : List Argument → Value
+index_along args = do r ← region_at args 0; k ← to_whole (value_at args 1); nth_cell_along r k
+
+abbrev pub v_lookup_value : List Argument → Value
+v_lookup_value = look_up_value (λ r. r.height) (λ r. r.width) cell_in
+
+abbrev pub h_lookup_value : List Argument → Value
+h_lookup_value = look_up_value (λ r. r.width) (λ r. r.height) (λ r column row. cell_in r row column)
+
+-- ---- MID, CONCATENATE and FIND of values
+
+-- `start` counts from 1
+abbrev pub mid_of : Value → Value → Value → Value
+mid_of t start count = do
+  s ← to_text t
+  j ← to_whole start
+  k ← to_whole count
+  first ← at_least 1 j
+  n ← at_least 0 k
+  of_chars (take n (drop (first - 1) (chars s)))
+
+abbrev pub concatenated : List Value → Value
+concatenated vs = do ts ← map_until_error to_text vs; limited_text (concat ts)
+
+-- `start` counts from 1
+abbrev pub find_of : Value → Value → Value → Value
+find_of t u start = do
+  sought ← to_text t
+  s ← to_text u
+  k ← to_whole start
+  from ← at_least 1 k
+  i ← ok_or (position_from (from - 1) (chars sought) (chars s)) BadValue
+  whole_value (i + 1)
+
+-- ---- arguments
+
 -- where `cells` gives the value of each cell
 abbrev pub argument_of : (ℕ → Value) → Value → Option Area → Argument
 argument_of cells v area = record { value = v; region = option_map (region_of cells) area }
@@ -70,6 +146,15 @@ of_two f args = f (value_at args 0) (value_at args 1)
 
 abbrev pub of_two_or : Value → (Value → Value → Value) → List Argument → Value
 of_two_or default f args = f (value_at args 0) (value_or default args 1)
+
+abbrev pub of_three : (Value → Value → Value → Value) → List Argument → Value
+of_three f args = f (value_at args 0) (value_at args 1) (value_at args 2)
+
+abbrev pub of_three_or : Value → (Value → Value → Value → Value) → List Argument → Value
+of_three_or default f args = f (value_at args 0) (value_at args 1) (value_or default args 2)
+
+abbrev pub of_values : (List Value → Value) → List Argument → Value
+of_values f args = f (map (λ (a : Argument). a.value) args)
 
 abbrev pub of_test : (Value → Bool) → List Argument → Value
 of_test test args = Logical (test (value_at args 0))

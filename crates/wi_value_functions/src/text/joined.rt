@@ -5,7 +5,8 @@ ghost use Rattle.std.specs.List.{repeat};
 ghost use Rattle.wi_values.specs.Value.{shown_text};
 ghost use Rattle.wi_standard_functions.specs.Arithmetic.{limited_text};
 ghost use Rattle.wi_standard_functions.specs.Convert.{to_text};
-ghost use Rattle.wi_standard_functions.specs.Text.{concatenate_value, rept_value};
+ghost use Rattle.wi_standard_functions.specs.Inner.Named.{concatenated};
+ghost use Rattle.wi_standard_functions.specs.Text.{rept_value};
 ghost use Rattle.wi_value_functions.specs.NoValues.{Gives};
 ghost use Rattle.wi_value_functions.specs.Inner.Gives.{Agrees};
 
@@ -17,7 +18,7 @@ use wi_values::{ErrorKind, MAX_TEXT, Text, Value};
 
 /// The values as texts, one after the other. Linear in all of them together.
 pub(crate) fn concatenate_value(alloc: Global, values: &[Value]) -> Result<Value, AllocError>
-    ensures { IfOk result (λ v. v ≡ concatenate_value values.now) }
+    ensures { IfOk result (λ v. v ≡ concatenated values.now) }
 {
     as_value(concatenate(alloc, values))
 }
@@ -30,7 +31,7 @@ pub(crate) fn rept_value(alloc: Global, text: &Value, number: &Value) -> Result<
 }
 
 fn concatenate(alloc: Global, values: &[Value]) -> Result<Value, NoValue<AllocError>>
-    ensures { Gives result (concatenate_value values.now) }
+    ensures { Gives result (concatenated values.now) }
 {
     let mut joined = String::new(alloc);
     for value in values {

@@ -1,7 +1,8 @@
 //! LEN, LEFT, RIGHT and MID (OpenFormula, "Text Functions").
 
 ghost use Rattle.std.specs.Prelude.{◌≡◌, IfOk};
-ghost use Rattle.wi_standard_functions.specs.Text.{len_value, left_value, right_value, mid_value};
+ghost use Rattle.wi_standard_functions.specs.Text.{len_value, left_value, right_value};
+ghost use Rattle.wi_standard_functions.specs.Inner.Named.{mid_of};
 ghost use Rattle.wi_value_functions.specs.NoValues.{Gives};
 
 use crate::count::whole_value;
@@ -40,7 +41,7 @@ pub(crate) fn mid_value(
     start: &Value,
     number: &Value,
 ) -> Result<Value, AllocError>
-    ensures { IfOk result (λ v. v ≡ mid_value text.now start.now number.now) }
+    ensures { IfOk result (λ v. v ≡ mid_of text.now start.now number.now) }
 {
     as_value(mid(alloc, text, start, number))
 }
@@ -75,7 +76,7 @@ fn mid(
     start: &Value,
     number: &Value,
 ) -> Result<Value, NoValue<AllocError>>
-    ensures { Gives result (mid_value text.now start.now number.now) }
+    ensures { Gives result (mid_of text.now start.now number.now) }
 {
     let shown = to_text(alloc, text)?;
     let start = to_whole(start)?;

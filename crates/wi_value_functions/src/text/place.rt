@@ -1,7 +1,8 @@
 //! EXACT and FIND (OpenFormula, "Text Functions").
 
 ghost use Rattle.std.specs.Prelude.{◌≡◌, ◌≤◌, IfOk, IfSome, length, chars};
-ghost use Rattle.wi_standard_functions.specs.Text.{exact_value, find_value, first_position, position_from};
+ghost use Rattle.wi_standard_functions.specs.Text.{exact_value, first_position, position_from};
+ghost use Rattle.wi_standard_functions.specs.Inner.Named.{find_of};
 ghost use Rattle.wi_value_functions.specs.NoValues.{Gives};
 
 use crate::count::whole_value;
@@ -33,7 +34,7 @@ pub(crate) fn find_value(
     text: &Value,
     start: &Value,
 ) -> Result<Value, AllocError>
-    ensures { IfOk result (λ v. v ≡ find_value sought.now text.now start.now) }
+    ensures { IfOk result (λ v. v ≡ find_of sought.now text.now start.now) }
 {
     as_value(find(alloc, sought, text, start))
 }
@@ -44,7 +45,7 @@ fn find(
     text: &Value,
     start: &Value,
 ) -> Result<Value, NoValue<AllocError>>
-    ensures { Gives result (find_value sought.now text.now start.now) }
+    ensures { Gives result (find_of sought.now text.now start.now) }
 {
     let sought = to_text(alloc, sought)?;
     let text = to_text(alloc, text)?;

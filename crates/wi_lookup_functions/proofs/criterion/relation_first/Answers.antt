@@ -1,5 +1,5 @@
 use Rattle.wi_lookup_functions.proofs.Words.{ℕ, Bool, List, ap, Value, constant_of}
-use Rattle.wi_standard_functions.specs.Criterion.{Criterion}
+use Rattle.wi_standard_functions.specs.Inner.Criteria.{Criterion}
 use Rattle.wi_lookup_functions.proofs.criterion.relation_first.Goals as goal
 
 abbrev by : (Value → Value → Bool) → List ℕ → Criterion

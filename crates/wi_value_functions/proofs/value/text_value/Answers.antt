@@ -1,4 +1,4 @@
-use Rattle.wi_value_functions.proofs.Words.{rules, ◌≡◌, List, IfOk, sym, subst, concatenate_value, Value}
+use Rattle.wi_value_functions.proofs.Words.{rules, ◌≡◌, List, IfOk, sym, subst, concatenated, Value}
 use Rattle.wi_value_functions.proofs.Given.{values_are}
 use Rattle.wi_value_functions.proofs.value.text_value.Goals as goal
 use Rattle.wi_value_functions.proofs.value.text_value.Goals.{in-Concatenate, in-Exact, in-Find, in-Left, in-Len, in-Mid, in-Rept, in-Right}
@@ -6,7 +6,7 @@ use Rattle.wi_value_functions.proofs.value.text_value.Goals.{in-Concatenate, in-
 pub returns : goal.returns
 returns c = elim c.match-function.branch [
   | in-Concatenate w ↦
-      let joined : List Value → Type 0 = λ vs. IfOk w.concatenate_value-value.result (λ v. v ≡ concatenate_value vs) in
+      let joined : List Value → Type 0 = λ vs. IfOk w.concatenate_value-value.result (λ v. v ≡ concatenated vs) in
       rw (w.value-is, w.in-Concatenate.is) (subst joined (sym (values_are c.args.values.now)) w.concatenate_value-value.ensures)
   | in-Exact w ↦ rw (w.value-is, w.in-Exact.is, ← c.value_or-first.ensures, ← c.value_or-second.ensures) w.exact_value-value.ensures
   | in-Find w ↦ rw (w.value-is, w.in-Find.is, ← c.value_or-first.ensures, ← c.value_or-second.ensures, ← c.one.ensures, ← w.value_or.ensures) w.find_value-value.ensures
