@@ -17,6 +17,7 @@ pub fn add(x: Fraction, y: Fraction) -> Result<Fraction, ErrorKind>
 }
 
 /// The difference, or `BadNumber` where it doesn't fit.
+#[inline(always)]
 pub fn subtract(x: Fraction, y: Fraction) -> Result<Fraction, ErrorKind>
     ensures { result ≡ subtraction x y }
 {
@@ -24,6 +25,7 @@ pub fn subtract(x: Fraction, y: Fraction) -> Result<Fraction, ErrorKind>
 }
 
 /// The product, or `BadNumber` where it doesn't fit.
+#[inline(always)]
 pub fn multiply(x: Fraction, y: Fraction) -> Result<Fraction, ErrorKind>
     ensures { result ≡ multiplication x y }
 {
