@@ -1,5 +1,5 @@
 -- Some of the replacements, by their count.
-use Rattle.wi_worlds.proofs.Words.{◌≡◌, ◌∙◌, suc, refl, subst, arith, Bool, true, false, cond, List, [], ◌∷◌, Result, Ok, Err, IfOk, filter, length, ap, nil_from_length, Replacement, keeps_few}
+use Rattle.wi_worlds.proofs.Words.{◌≡◌, ◌∙◌, ◌==◌, ◌&&◌, ℕ, suc, refl, subst, arith, Bool, true, false, cond, List, [], ◌∷◌, None, Result, Ok, Err, IfOk, if◌then◌else◌, filter, map, length, ap, or_left, or_right, nil_from_length, Replacement, replaced, replaced-filter, keeps_few, is_itself, is_one_of, has-filter, is_of}
 
 -- where as many are kept as there are, all are, and where none are counted, none is
 whole : (p : Replacement → Bool) (rs : List Replacement) → length (filter p rs) ≡ length rs → filter p rs ≡ rs
@@ -22,3 +22,34 @@ pub made_of : {E : Type 0} (p : Replacement → Bool) (rs kept : List Replacemen
     → IfOk r (λ w. w ≡ kept) → kept ≡ filter p rs → IfOk r (λ w. w ≡ filter p rs)
 made_of p rs kept (Ok w) h e = h ∙ e
 made_of p rs kept (Err x) h e = tt
+
+-- what each address has among them
+pub each_of : {E : Type 0} (q : ℕ → Bool) (rs : List Replacement) (r : Result (List Replacement) E)
+    → IfOk r (λ w. w ≡ filter (λ x. q x.at) rs) → IfOk r (λ w. (a : ℕ) → replaced w a ≡ (if q a then replaced rs a else None))
+each_of q rs (Ok w) h = λ a. ap (λ (v : List Replacement). replaced v a) h ∙ replaced-filter q a rs
+each_of q rs (Err e) h = tt
+
+-- ---- by their cells
+
+cells_kept : (q : ℕ → Bool) (rs : List Replacement) → map (λ r. r.at) (filter (λ r. q r.at) rs) ≡ filter q (map (λ r. r.at) rs)
+cells_kept q [] = refl
+cells_kept q (r ∷ rs) = by (q r.at) (cells_kept q rs)
+  where
+    by : (b : Bool) → map (λ x. x.at) (filter (λ x. q x.at) rs) ≡ filter q (map (λ x. x.at) rs)
+        → map (λ x. x.at) (cond b (r ∷ filter (λ x. q x.at) rs) (filter (λ x. q x.at) rs)) ≡ cond b (r.at ∷ filter q (map (λ x. x.at) rs)) (filter q (map (λ x. x.at) rs))
+    by true h = ap (λ (xs : List ℕ). r.at ∷ xs) h
+    by false h = h
+
+-- the test of each is whether its cell is one of these
+tested : (q : ℕ → Bool) (cells : List ℕ) (rs : List Replacement) → ((a : ℕ) → is_one_of (map (λ r. r.at) rs) a ≡ true → is_one_of cells a ≡ q a)
+    → filter (is_of cells) rs ≡ filter (λ r. q r.at) rs
+tested q cells [] h = refl
+tested q cells (r ∷ rs) h =
+    ap (λ (b : Bool). cond b (r ∷ filter (is_of cells) rs) (filter (is_of cells) rs)) (h r.at (or_left (r.at == r.at) (is_one_of (map (λ x. x.at) rs) r.at) (is_itself r.at)))
+    ∙ ap (λ (xs : List Replacement). cond (q r.at) (r ∷ xs) xs) (tested q cells rs (λ a k. h a (or_right (r.at == a) (is_one_of (map (λ x. x.at) rs) a) k)))
+
+-- those of the cells of the kept ones are the kept ones
+pub those_of : (q : ℕ → Bool) (rs : List Replacement) (cells : List ℕ) → cells ≡ map (λ r. r.at) (filter (λ r. q r.at) rs)
+    → filter (is_of cells) rs ≡ filter (λ r. q r.at) rs
+those_of q rs cells e =
+    tested q cells rs (λ a k. ap (λ (xs : List ℕ). is_one_of xs a) (e ∙ cells_kept q rs) ∙ has-filter q (map (λ r. r.at) rs) a ∙ ap (λ (b : Bool). b && q a) k)

@@ -18,7 +18,7 @@ pub use Rattle.std.specs.Map.{lookup}
 pub use Rattle.std.specs.Option.{option_copied, option_map, option_or, unwrap_or}
 pub use Rattle.std.specs.Ordering.{nat_cmp}
 pub use Rattle.std.specs.Prelude.{All, IsSome}
-pub use Rattle.wi_values.proofs.Listed.{found_by_key}
+pub use Rattle.wi_values.proofs.Listed.{found_by_key, has-filter}
 pub use Rattle.wi_values.proofs.Lists.{keeps_few, one_less}
 pub use Rattle.wi_values.proofs.Order.{is_at-eq, is_itself, turn_test}
 pub use Rattle.wi_values.proofs.Replacements.Filtering.{order_of_filter, replaced-filter}

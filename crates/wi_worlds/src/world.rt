@@ -1,17 +1,18 @@
 //! Replacements, one for each address.
 
-ghost use Rattle.std.specs.Prelude.{◌≡◌, ◌∷◌, ℕ, [], All, filter, None, IsSome, IsTrue, IfOk, OnErr, length, if◌then◌else◌};
+ghost use Rattle.std.specs.Prelude.{◌≡◌, ◌∷◌, ℕ, [], All, filter, map, None, IsSome, IsTrue, IfOk, OnErr, length, if◌then◌else◌};
 ghost use Rattle.std.specs.BTreeMap.{get};
+ghost use Rattle.std.specs.List.Sorted.{IsStrictlyIncreasing};
 ghost use Rattle.std.specs.Option.{option_copied, option_or};
 ghost use Rattle.std.specs.Ordering.{nat_cmp};
-ghost use Rattle.wi_values.specs.Replacements.{IsInOrder, as_map, last_for, overridden, replaced, same_replacements};
+ghost use Rattle.wi_values.specs.Replacements.{IsInOrder, as_map, last_for, overridden, replaced};
 ghost use Rattle.wi_worlds.specs.Inner.Compared.{digest_of};
-ghost use Rattle.wi_worlds.specs.Reached.{is_reached_by, reached_by};
+ghost use Rattle.wi_worlds.specs.Reached.{is_of, is_reached_by, reached_by};
 ghost use Rattle.wi_worlds.specs.Reaching.{cone_has, is_reached};
 
 use crate::entries::{copied, insert_copies, listed};
 use crate::lookup::value_at;
-use crate::part::{Part, copies_of, part_of};
+use crate::part::{copies_of, part_of};
 use crate::reaches::Reaches;
 use std::alloc::{AllocError, Global};
 use std::collections::{BTreeMap, BTreeSet};
@@ -156,11 +157,10 @@ impl World {
         value_at(self.replacements(), at)
     }
 
-    /// The replacements that a cell reaches, where each replaced address has its cone. What an earlier call gave is
-    /// remembered, where it was neither all nor none: the same again, and all and none, are shared, without memory and
-    /// without a hash; any other is copied and hashed, and remembered. The answer is the same whatever is remembered.
-    /// If memory runs out, that stays as it was. The work for each replacement grows with the logarithms of the count
-    /// of cones and of the count of cells in its own; texts are compared with the last byte by byte.
+    /// The replacements that a cell reaches, where each replaced address has its cone, shared as by `reaching_by`. The cells of
+    /// those are listed first, in memory of the list's length. If memory runs out, the last stay as they were. The work for each
+    /// replacement grows with the logarithms of the count of cones and of the count of cells in its own; texts are compared with
+    /// the last byte by byte.
     pub fn reaching(
         &self,
         at: Address,
@@ -173,27 +173,15 @@ impl World {
             ≡ (if cone_has cones.now a at then replaced self.now a else None)) }
         ensures last { OnErr result (last.new ≡ last.old) }
     {
-        let all = self.replacements();
-        let part = part_reached(all, at, cones, last.replacements());
-        if part.count == all.len() {
-            return self.copy();
-        }
-        if part.count == 0 {
-            return Ok(World::new(self.alloc));
-        }
-        if part.is_last {
-            return last.copy();
-        }
-        let kept = reached(self.alloc, part.count, all, at, cones)?;
-        let world = World::of(self.alloc, kept)?;
-        *last = world.copy()?;
-        Ok(world)
+        let cells = reached_cells(self.alloc, self.replacements(), at, cones)?;
+        self.restricted(&cells, last)
     }
 
-    /// The replacements of the cells that a cell is recorded to reach. They are shared as by `reaching`, and the answer
-    /// is the same whatever the last are. If memory runs out, the last stay as they were. What the cell reaches is
-    /// looked up once; then the work grows with the count of the fewer, replacements or such cells, times the logarithm
-    /// of that of the others; texts are compared with the last byte by byte.
+    /// The replacements of the cells that a cell is recorded to reach. What an earlier call gave is remembered, where it was
+    /// neither all nor none: the same again, and all and none, are shared, without memory and without a hash; any other is copied
+    /// and hashed, and remembered. The answer is the same whatever is remembered. If memory runs out, that stays as it was. What
+    /// the cell reaches is looked up once; then the work grows with the count of the fewer, replacements or such cells, times the
+    /// logarithm of that of the others; texts are compared with the last byte by byte.
     #[inline(always)]
     pub fn reaching_by(
         &self,
@@ -206,11 +194,20 @@ impl World {
             ≡ (if reached_by reaches.now at a then replaced self.now a else None)) }
         ensures last { OnErr result (last.new ≡ last.old) }
     {
-        let all = self.replacements();
-        if all.is_empty() {
+        if self.replacements().is_empty() {
             return self.copy();
         }
-        let cells = reaches.reached(at);
+        self.restricted(reaches.reached(at), last)
+    }
+
+    /// The replacements of these cells, in row-major order, shared as `reaching_by` says.
+    #[inline(always)]
+    fn restricted(&self, cells: &[Address], last: &mut World) -> Result<World, AllocError>
+        requires rise { IsStrictlyIncreasing cells.now }
+        ensures list { IfOk result (λ w. w ≡ filter (is_of cells.now) self.now) }
+        ensures last { OnErr result (last.new ≡ last.old) }
+    {
+        let all = self.replacements();
         let part = part_of(all, cells, last.replacements());
         if part.count == all.len() {
             return self.copy();
@@ -244,50 +241,24 @@ fn digest(replacements: &[Replacement]) -> u64
     hasher.finish()
 }
 
-/// The replacements whose cone has a cell, compared with the last part in the same walk.
-fn part_reached(
-    replacements: &[Replacement],
-    at: Address,
-    cones: &BTreeMap<Address, BTreeSet<Address>>,
-    last: &[Replacement],
-) -> Part
-    requires cones { All (λ r. IsSome (get nat_cmp cones.now r.at)) replacements.now }
-    ensures count { result.count ≡ length (filter (is_reached cones.now at) replacements.now) }
-    ensures last { result.is_last
-        ≡ same_replacements last.now (filter (is_reached cones.now at) replacements.now) }
-{
-    let mut count = 0;
-    let mut is_last = true;
-    for replacement in replacements {
-        if is_reached(replacement.at, at, cones) {
-            is_last = is_last && last.get(count) == Some(replacement);
-            count += 1;
-        }
-    }
-    Part {
-        count,
-        is_last: is_last && count == last.len(),
-    }
-}
-
-/// Copies of the replacements whose cone has a cell, in a list with room for their count.
-fn reached(
+/// The replaced cells whose cone has a cell, in the order of the replacements.
+fn reached_cells(
     alloc: Global,
-    count: usize,
     replacements: &[Replacement],
     at: Address,
     cones: &BTreeMap<Address, BTreeSet<Address>>,
-) -> Result<Vec<Replacement>, AllocError>
+) -> Result<Vec<Address>, AllocError>
     requires cones { All (λ r. IsSome (get nat_cmp cones.now r.at)) replacements.now }
-    ensures { IfOk result (λ rs. rs.items ≡ filter (is_reached cones.now at) replacements.now) }
+    ensures { IfOk result (λ cells. cells.items
+        ≡ map (λ r. r.at) (filter (is_reached cones.now at) replacements.now)) }
 {
-    let mut kept = Vec::with_capacity(alloc, count)?;
+    let mut cells = Vec::new(alloc);
     for replacement in replacements {
         if is_reached(replacement.at, at, cones) {
-            kept.push(copied(alloc, replacement)?)?;
+            cells.push(replacement.at)?;
         }
     }
-    Ok(kept)
+    Ok(cells)
 }
 
 /// Whether the cone of a replaced address has a cell.

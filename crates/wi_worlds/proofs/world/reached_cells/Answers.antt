@@ -1,5 +1,5 @@
 use Rattle.wi_worlds.proofs.Words.{subst, sym, arith, common_steps, IsSome, get, nat_cmp, Replacement}
-use Rattle.wi_worlds.proofs.world.reached.Goals as goal
+use Rattle.wi_worlds.proofs.world.reached_cells.Goals as goal
 
 pub is_reached-requires : goal.is_reached-requires
 is_reached-requires c =
