@@ -1,4 +1,4 @@
-use Rattle.wi_worlds.proofs.Words.{◌≡◌, ℕ, List, [], ◌∷◌, refl, length, filter, sym, ap, subst, arith, IsStrictlyIncreasing, eqb-true, Replacement, ReachTable, is_of, is_reached_by, reached_by}
+use Rattle.wi_worlds.proofs.Words.{◌∙◌, ◌≡◌, ℕ, List, [], ◌∷◌, refl, length, filter, sym, ap, subst, arith, IsStrictlyIncreasing, eqb-true, Replacement, ReachTable, is_of, is_reached_by, reached_by}
 use Rattle.wi_worlds.proofs.Filtering.{made_of, each_of}
 use Rattle.wi_worlds.proofs.world.World.reaching_by.Goals as goal
 
