@@ -157,10 +157,10 @@ impl World {
         value_at(self.replacements(), at)
     }
 
-    /// The replacements that a cell reaches, where each replaced address has its cone, shared as by `reaching_by`. The cells of
-    /// those are listed first, in memory of the list's length. If memory runs out, the last stay as they were. The work for each
-    /// replacement grows with the logarithms of the count of cones and of the count of cells in its own; texts are compared with
-    /// the last byte by byte.
+    /// The replacements that a cell reaches, where each replaced address has its cone, shared as by `reaching_by`. The
+    /// cells of those are listed first, in memory of the list's length. If memory runs out, the last stay as they were.
+    /// The work for each replacement grows with the logarithms of the count of cones and of the count of cells in its
+    /// own; texts are compared with the last byte by byte.
     pub fn reaching(
         &self,
         at: Address,
@@ -177,11 +177,12 @@ impl World {
         self.restricted(&cells, last)
     }
 
-    /// The replacements of the cells that a cell is recorded to reach. What an earlier call gave is remembered, where it was
-    /// neither all nor none: the same again, and all and none, are shared, without memory and without a hash; any other is copied
-    /// and hashed, and remembered. The answer is the same whatever is remembered. If memory runs out, that stays as it was. What
-    /// the cell reaches is looked up once; then the work grows with the count of the fewer, replacements or such cells, times the
-    /// logarithm of that of the others; texts are compared with the last byte by byte.
+    /// The replacements of the cells that a cell is recorded to reach. What an earlier call gave is remembered, where
+    /// it was neither all nor none: the same again, and all and none, are shared, without memory and without a hash;
+    /// any other is copied and hashed, and remembered. The answer is the same whatever is remembered. If memory runs
+    /// out, that stays as it was. What the cell reaches is looked up once; then the work grows with the count of the
+    /// fewer, replacements or such cells, times the logarithm of that of the others; texts are compared with the last
+    /// byte by byte.
     #[inline(always)]
     pub fn reaching_by(
         &self,
