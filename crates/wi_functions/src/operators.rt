@@ -40,7 +40,7 @@ pub(crate) fn operate(
     }
 }
 
-/// The same for two numbers, of which most operators need no conversion.
+/// What an operator gives for two numbers, which most operators take without a conversion.
 #[inline(always)]
 fn operate_on_numbers(
     alloc: Global,
@@ -67,7 +67,7 @@ fn operate_on_numbers(
     }
 }
 
-/// The same for values of any kinds.
+/// What an operator gives for values of any kinds, with conversions.
 #[inline(never)]
 fn operate_on_any(
     alloc: Global,
