@@ -38,7 +38,7 @@ FILES = {
 WANTED = [
     "signs before ^: a minus, unary | crates/wi_low/specs/Grammar.antt: line_of, unary"
     " | crates/wi_low/src/part/grammar.rt: line, line2; crates/high/src/main.rt | signs; tests/made",
-    "messages | crates/high/src/main.rt: tell",
+    "messages | no definition | crates/high/src/main.rt: tell",
 ]
 
 

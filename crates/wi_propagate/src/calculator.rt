@@ -113,8 +113,8 @@ pub trait Calculator {
             IfOk result (λ found. (c : ℕ) → is_one_of found.items c ≡ false
             → IsUnmoved sheet cells.now c) };
 
-    /// Of the cells that `mark` finds at least those that aren't watched, where each cell is watched that a watched one
-    /// marks.
+    /// Every cell that `mark` finds and that isn't watched; watched ones may be left out. The caller owes that what a
+    /// watched cell marks is watched.
     fn mark_beyond<W: Watch>(&self, cells: &[Address], watch: &W) -> Result<Cells, AllocError>
         requires { let sheet = (stored self.now).sheet in
             (a c : ℕ) → W.watched watch.now a ≡ true

@@ -3,7 +3,7 @@
 use std::alloc::{AllocError, Global};
 use wi_worlds::World;
 
-/// For how many values of a full list one sighting is kept.
+/// One sighting is kept for so many places of the list.
 const VALUES_PER_SIGHTING: usize = 4;
 
 /// Of how many new worlds the values are kept after one came back.

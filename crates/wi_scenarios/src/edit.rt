@@ -22,12 +22,12 @@ use wi_sessions::Sessions;
 use wi_values::{Address, Rect};
 
 /// Edits the sheet, where each of some cells gets a content or none, and notes in the log which rectangles the edit
-/// names; the cells that may show something else then are pending for each session. The contents are taken out of their
+/// names; the cells that may show something else then are pending for all sessions. The contents are taken out of their
 /// list. An edit that isn't forced is refused as `Stale` where it names a cell that another session has edited since
 /// the current one was last shown what has changed. The work grows with the edits that the log hasn't noted, up to the
 /// last one of another session, with those of others that the current session hasn't seen yet, and with the rectangles
 /// that these name; with the edited cells, what they read and who reads them; with those that depend on the edited ones
-/// and aren't pending for each session; where several cells read something new, or a cycle may be closed or opened,
+/// and aren't pending for all sessions; where several cells read something new, or a cycle may be closed or opened,
 /// with all that depend on them, what these read and who reads them.
 pub(crate) fn apply_edit<C: Calculator>(
     alloc: Global,
@@ -132,8 +132,8 @@ fn first_stale(desk: &Desk, named: &[Rect], force: bool) -> Option<Address>
     desk.log.first_stale(desk.session(), seen, named)
 }
 
-/// The cells that may show something else once some cells get these contents, of those that are pending for each
-/// session perhaps not all; for no cell there is none.
+/// Cells that may show something else once these contents are in. Those that are pending for all sessions already may
+/// be left out. Without contents there is none.
 fn marked_by<C: Calculator>(
     alloc: Global,
     calculator: &C,
@@ -153,7 +153,7 @@ fn marked_by<C: Calculator>(
     calculator.mark_beyond(cells.as_slice(), &PendingForAll { sessions })
 }
 
-/// The cells that are pending for each session.
+/// The cells that are pending for all sessions.
 #[derive(Drop)]
 struct PendingForAll<'a> {
     sessions: &'a Sessions,

@@ -48,9 +48,8 @@ pub fn sessions_keep_apart()
 {}
 
 /// The log grows by the accepted edits, and a session's place in it is that of the last change list that it was told.
-/// An edit that isn't forced, and isn't refused for a cause that counts before or as out of memory, is refused for a
-/// stale cell exactly where others' edits since then name one of its cells, and for the first such. One that is forced
-/// never is.
+/// Leaving aside earlier causes and memory, an edit that isn't forced is refused as stale exactly where others' edits
+/// since then name one of its cells, and for the first such. One that is forced never is.
 #[tactic(auto, using(crate::proofs::StaleLemmas::forced_is_not_stale))]
 pub fn stale_is_newer()
     ensures log { (s : State) (es : List (Event Call)) (i : ℕ) → IsCoherent s

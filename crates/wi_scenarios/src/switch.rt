@@ -89,7 +89,7 @@ fn make_room_for_each<C: Calculator>(
     Ok(())
 }
 
-/// Other scenarios take the place of all; the cells that may show something else then are pending for each session. On
+/// Other scenarios take the place of all; the cells that may show something else then are pending for all sessions. On
 /// an error all is as before. The work for each session is that of `Scenarios::effective`, once for what its scenario
 /// puts in now and once for what it will, also where nothing of it changes, and that of `make_room_between`.
 pub(crate) fn switch_to<C: Calculator>(

@@ -114,10 +114,10 @@ impl<C: Calculator> Workbook<C> {
 
     /// Puts a content into a cell. An empty one is refused as `BadCommand`. An edit of a cell that another session has
     /// edited since the current one was last shown what has changed is refused as `Stale`, but not where it is forced.
-    /// The work of this and the other edits grows with the cells that depend on the edited ones and aren't pending for
-    /// each session, for each session, and with those that read the edited ones; where several cells read something
-    /// new, or a cycle may be closed or opened, with all that depend on them; the memory for a session with those that
-    /// aren't pending for it.
+    ///
+    /// The work of this and of the other edits grows with the formulas that read the edited cells; for each session, with
+    /// those dependents that aren't pending for all sessions; and with all dependents where several cells read something
+    /// new, or a cycle may be closed or opened. The memory for a session grows with the cells that aren't pending for it.
     pub fn set(&mut self, at: Address, content: &str, force: bool) -> Result<(), Refusal>
         ensures step { Serves (IsCallStep self.old.state (call.Set force at content.now))
             result self.old.state self.new.state [] }
