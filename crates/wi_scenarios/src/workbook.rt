@@ -115,9 +115,10 @@ impl<C: Calculator> Workbook<C> {
     /// Puts a content into a cell. An empty one is refused as `BadCommand`. An edit of a cell that another session has
     /// edited since the current one was last shown what has changed is refused as `Stale`, but not where it is forced.
     ///
-    /// The work of this and of the other edits grows with the formulas that read the edited cells; for each session, with
-    /// those dependents that aren't pending for all sessions; and with all dependents where several cells read something
-    /// new, or a cycle may be closed or opened. The memory for a session grows with the cells that aren't pending for it.
+    /// The work of this and of the other edits grows with the formulas that read the edited cells; for each session,
+    /// with those dependents that aren't pending for all sessions; and with all dependents where several cells read
+    /// something new, or a cycle may be closed or opened. The memory for a session grows with the cells that aren't
+    /// pending for it.
     pub fn set(&mut self, at: Address, content: &str, force: bool) -> Result<(), Refusal>
         ensures step { Serves (IsCallStep self.old.state (call.Set force at content.now))
             result self.old.state self.new.state [] }
