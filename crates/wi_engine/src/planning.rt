@@ -51,18 +51,23 @@ struct Draft {
     // A cell that reads it, by each cell that was met.
     readers: BTreeMap<Address, Address>,
     cells: Vec<Planned>,
+    // How many formulas were met that it evaluates, those of the path among them.
+    formulas: u64,
 }
 
 /// A plan for a cell's value where the inputs of a world are replaced, if there is one. There is none for a cell that
-/// reaches no input, none of more than `MAX_CELLS` cells, and none where a formula that reaches an input has a
-/// what-if. The formulas that reach an input are gone through twice: for each occupied cell that they read the work
-/// is twice that of `Store::next_occupied`, and where it has a formula a few look-ups, and once that of a key. A walk
-/// of more than `MAX_STEPS` finds no plan. The memory grows with the count of the cells with a formula that are read.
+/// reaches no input, none that evaluates more than `most` formulas beside that of the cell, none of more than
+/// `MAX_CELLS` cells, and none where a formula that reaches an input has a what-if. The formulas that reach an input
+/// are gone through twice: for each occupied cell that they read the work is twice that of `Store::next_occupied`, and
+/// where it has a formula a few look-ups, and once that of a key. The walk to them ends at the first one above `most`,
+/// and finds no plan in more than `MAX_STEPS` steps. The memory grows with the count of the cells with a formula that
+/// are read.
 pub fn make_plan<M: Memo>(
     alloc: Global,
     store: &Store,
     world: &World,
     root: Address,
+    most: u64,
     memo: &mut M,
 ) -> Result<Option<Plan>, AllocError>
     requires memo { IsMemoOf store.now.sheet (M.state memo.old) }
@@ -74,7 +79,7 @@ pub fn make_plan<M: Memo>(
         p.inputs.items ≡ map (λ r. r.at) world.now)) }
     ensures same { M.state memo.new ≡ M.state memo.old }
 {
-    let Some(draft) = drafted(alloc, store, world, root, memo)? else {
+    let Some(draft) = drafted(alloc, store, world, root, most, memo)? else {
         return Ok(None);
     };
     checked(alloc, store, world, root, draft)
@@ -320,14 +325,15 @@ fn have_what_if(trees: &[Expr]) -> bool
 
 // ---- the draft
 
-/// The cells below a root that reach replaced ones, with those beside them that they read, in an order in which each
-/// comes after those that it reads. None where they or the steps of the walk are too many, and where one of them has
-/// a what-if.
+/// The cells below a root that reach replaced ones, at most so many, with those beside them that they read, in an
+/// order in which each comes after those that it reads. None where they or the steps of the walk are too many, and
+/// where one of them has a what-if.
 fn drafted<M: Memo>(
     alloc: Global,
     store: &Store,
     world: &World,
     root: Address,
+    most: u64,
     memo: &mut M,
 ) -> Result<Option<Draft>, AllocError>
     requires memo { IsMemoOf store.now.sheet (M.state memo.old) }
@@ -347,13 +353,14 @@ fn drafted<M: Memo>(
         path: Vec::new(alloc),
         readers: BTreeMap::new(alloc),
         cells: Vec::new(alloc),
+        formulas: 0,
     };
     draft.go_into(root)?;
     for _ in 0..MAX_STEPS {
         let Some(reading) = draft.path.pop() else {
             return Ok(Some(draft));
         };
-        if !draft.go_on(store, world, reading, memo)? || draft.cells.len() > MAX_CELLS {
+        if !draft.go_on(store, world, reading, memo)? || draft.is_above(most) {
             return Ok(None);
         }
     }
@@ -361,6 +368,11 @@ fn drafted<M: Memo>(
 }
 
 impl Draft {
+    /// Whether it evaluates more than so many formulas, or has too many cells.
+    fn is_above(&self, most: u64) -> bool {
+        self.formulas > most || self.cells.len() > MAX_CELLS
+    }
+
     /// Goes on from the last formula of the path, which was taken off: to the next cell that it reads, or back.
     /// Answers whether the cells may still become a plan.
     fn go_on<M: Memo>(
@@ -417,6 +429,7 @@ impl Draft {
         };
         self.readers.insert(cell, reader)?;
         if reaches_replaced(world, cell, memo)? {
+            self.formulas = self.formulas.saturating_add(1);
             self.go_into(cell)?;
             return Ok(formula.inputs().is_empty());
         }

@@ -89,8 +89,8 @@ impl Plans {
         true
     }
 
-    /// Notes that a cell is asked for where a world's cells are replaced, and makes a plan for it the third time. Where memory runs
-    /// out, or a plan would evaluate more than was evaluated without it, none is made.
+    /// Notes that a cell is asked for where a world's cells are replaced, and makes a plan for it the third time. Where
+    /// memory runs out, or a plan would take more than it spares, none is made.
     pub(crate) fn sighting<M: Memo + Drop>(
         &mut self,
         question: &mut Question<M>,
@@ -108,8 +108,9 @@ impl Plans {
             return;
         };
         let alloc = question.pool.allocator();
-        if let Ok(Some(plan)) = make_plan(alloc, store, world, root, &mut question.memo) {
-            if pays(&plan, evaluations) {
+        let most = most_formulas(evaluations);
+        if let Ok(Some(plan)) = make_plan(alloc, store, world, root, most, &mut question.memo) {
+            if pays(&plan) {
                 self.add(plan);
             }
         }
@@ -178,10 +179,16 @@ fn inputs_of(world: &World) -> u64 {
     hasher.finish()
 }
 
-/// Whether a plan spares more than it takes: it evaluates hardly more than was evaluated without it.
-fn pays(plan: &Plan, evaluations: u64) -> bool {
-    let count = evaluated_cells(&plan.cells);
-    count >= LEAST && count <= evaluations.saturating_add(evaluations / 8)
+/// How many formulas a plan evaluates at most, where so many were evaluated without it: hardly more. None where they
+/// are too few for a plan.
+fn most_formulas(evaluations: u64) -> u64 {
+    let most = evaluations.saturating_add(evaluations / 8);
+    if most < LEAST { 0 } else { most }
+}
+
+/// Whether a plan spares more than it takes: it evaluates enough.
+fn pays(plan: &Plan) -> bool {
+    evaluated_cells(&plan.cells) >= LEAST
 }
 
 /// How many of these cells a plan evaluates.
