@@ -99,3 +99,18 @@ spends_at_most h = record {
   on_kept = h.on_kept;
   saved = h.saved;
 }
+
+-- the same of fewer lists, from the same beginning
+pub at_most_weaken : {s : Sheet} {Has Less : List Case → Type 0} {m old new : MemoState} {a b : Counts} {done : Bool} → m ≡ old → ((ks : List Case) → Less ks → Has ks) → SpendsAtMost s Has m new a b done → SpendsAtMost s Less old new a b done
+at_most_weaken {s} {Has} {Less} {m} {old} {new} {a} {b} {done} e has g =
+    let h : SpendsAtMost s Has old new a b done = subst (λ (x : MemoState). SpendsAtMost s Has x new a b done) e g in
+    record {
+      right = h.right;
+      same = h.same;
+      counts = h.counts;
+      places = h.places;
+      gives_up = h.gives_up;
+      at_most = λ ks closed top. h.at_most ks closed (has ks top);
+      on_kept = λ ks closed top whole space. h.on_kept ks closed (has ks top) whole space;
+      saved = λ d ks closed top whole space. h.saved d ks closed (has ks top) whole space;
+    }

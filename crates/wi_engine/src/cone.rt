@@ -6,7 +6,7 @@ ghost use Rattle.std.specs.BTreeSet.{contains};
 ghost use Rattle.std.specs.List.{list_any};
 ghost use Rattle.std.specs.Map.{keys_of};
 ghost use Rattle.std.specs.Ordering.{nat_cmp};
-ghost use Rattle.wi_values.specs.Address.{is_one_of, is_within, is_within_one};
+ghost use Rattle.wi_values.specs.Address.{is_one_of, is_within};
 ghost use Rattle.wi_parser.specs.Sheet.{content_of};
 ghost use Rattle.wi_parser.specs.Reads.{content_reads};
 ghost use Rattle.wi_graph.specs.Reach.{reaches};
@@ -15,7 +15,7 @@ ghost use Rattle.wi_sheet.specs.Inner.ReadOrder.{IsReadOrder};
 ghost use Rattle.wi_engine.specs.Inner.Remembered.{AreCones};
 
 use crate::content_ref::formula_at;
-use crate::occupied::next_within;
+use crate::occupied::{is_in_one, next_within};
 use std::alloc::{AllocError, Global};
 use std::collections::{BTreeMap, BTreeSet};
 use wi_store::Store;
@@ -105,13 +105,6 @@ fn steps_into(store: &Store, cell: Address, at: Address, cone: &BTreeSet<Address
         return true;
     }
     has_one(store, rectangles, cone)
-}
-
-/// Whether a cell is in one of these rectangles.
-fn is_in_one(at: Address, rectangles: &[Rect]) -> bool
-    ensures { result ≡ is_within_one rectangles.now at }
-{
-    rectangles.iter().any(|rectangle| rectangle.contains(at))
 }
 
 /// Whether a set has one of the occupied cells of these rectangles.

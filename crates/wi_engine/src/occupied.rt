@@ -1,7 +1,7 @@
 //! The occupied cells of a rectangle, one after another.
 
 ghost use Rattle.std.specs.Prelude.{◌≡◌, ◌∷◌, [], ℕ, Some, true, false, IfSome, IfNone, nat_le};
-ghost use Rattle.wi_values.specs.Address.{is_within};
+ghost use Rattle.wi_values.specs.Address.{is_within, is_within_one};
 ghost use Rattle.wi_sheet.specs.Inner.ReadCells.{cells_after, is_after};
 
 use wi_arguments::successor;
@@ -18,6 +18,13 @@ pub(crate) fn next_within(store: &Store, area: Rect, after: Option<Address>) -> 
     store.cells_stand_in_order();
     let from = first_after(area, after)?;
     store.next_occupied(area, from)
+}
+
+/// Whether a cell is in one of these rectangles.
+pub(crate) fn is_in_one(at: Address, rectangles: &[Rect]) -> bool
+    ensures { result ≡ is_within_one rectangles.now at }
+{
+    rectangles.iter().any(|rectangle| rectangle.contains(at))
 }
 
 /// From where on the cells of a rectangle come after the one looked at last, if any of them does.

@@ -6,7 +6,7 @@ ghost use Rattle.std.specs.Bool.{OnTrue};
 ghost use Rattle.std.specs.List.{list_any};
 ghost use Rattle.std.specs.Map.{keys_of};
 ghost use Rattle.std.specs.Ordering.{nat_cmp};
-ghost use Rattle.wi_values.specs.Address.{is_one_of, is_within, is_within_one};
+ghost use Rattle.wi_values.specs.Address.{is_one_of, is_within};
 ghost use Rattle.wi_parser.specs.Leaves.{leaves, all_leaves};
 ghost use Rattle.wi_parser.specs.Reads.{content_reads};
 ghost use Rattle.wi_parser.specs.Sheet.{content_of, has_formula};
@@ -18,7 +18,7 @@ ghost use Rattle.wi_engine.specs.Inner.Plans.{IsWholePlan, MayBeNext, RestsOnSet
 
 use crate::content_ref::{formula_at, formula_in};
 use crate::memo::Memo;
-use crate::occupied::next_within;
+use crate::occupied::{is_in_one, next_within};
 use crate::plan::{Plan, Planned};
 use std::alloc::{AllocError, Global};
 use std::collections::{BTreeMap, BTreeSet};
@@ -244,13 +244,6 @@ fn plain_formula(store: &Store, at: Address) -> Option<&Formula>
         return None;
     }
     Some(formula)
-}
-
-/// Whether a cell is in one of these rectangles.
-fn is_in_one(at: Address, rectangles: &[Rect]) -> bool
-    ensures { result ≡ is_within_one rectangles.now at }
-{
-    rectangles.iter().any(|rectangle| rectangle.contains(at))
 }
 
 /// Whether a cell of these rectangles has a formula and is none of these.

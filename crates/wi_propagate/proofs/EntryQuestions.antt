@@ -1,5 +1,5 @@
 -- An entry of a data table that is asked for: which cells may be read, and what is kept for longer.
-use Rattle.wi_propagate.proofs.Words.{◌≡◌, ◌==◌, ◌<◌, ◌+◌, ◌||◌, ℕ, zero, suc, Bool, true, false, List, [], ◌∷◌, map, take, get_or, length, All, refl, sym, ap, ◌∙◌, subst, arith, eq-eqb, or_left, or_right, All-more, list_any, Replacement, Sheet, content_of, has_formula, Counts, circular, is_one_of, Case, case_of, same_case, one_less_left, with_what_if, IsSettled, IsWhatIfSettled, HasCase, HasReplacing, HasEntry, all_more, test_of_cells, cells_open, MemoState, MayBeRead, OneQuestion, remembered, question_state, WhereSpace, IsUnkept, Saved, Spends, SpendsAtMost, spends_at_most, where_then}
+use Rattle.wi_propagate.proofs.Words.{◌≡◌, ◌==◌, ◌<◌, ◌+◌, ◌||◌, ℕ, zero, suc, Bool, true, false, List, [], ◌∷◌, map, take, get_or, length, All, refl, sym, ap, ◌∙◌, subst, arith, eq-eqb, or_left, or_right, All-more, list_any, Replacement, Sheet, content_of, has_formula, Counts, circular, is_one_of, Case, case_of, same_case, one_less_left, with_what_if, IsSettled, IsWhatIfSettled, HasCase, HasReplacing, HasEntry, all_more, test_of_cells, cells_open, MemoState, MayBeRead, OneQuestion, remembered, question_state, WhereSpace, IsUnkept, Saved, Spends, SpendsAtMost, at_most_weaken, spends_at_most, where_then}
 
 -- ---- the cells whose values it asks for
 
@@ -67,21 +67,6 @@ module _ (s : Sheet) (w : List Replacement) (f : ℕ) (pairs : List (ℕ × ℕ)
       }
 
 -- ---- an entry by a plan
-
--- the same of fewer lists, from the same beginning
-at_most_weaken : {s : Sheet} {Has Less : List Case → Type 0} {m old new : MemoState} {a b : Counts} {done : Bool} → m ≡ old → ((ks : List Case) → Less ks → Has ks) → SpendsAtMost s Has m new a b done → SpendsAtMost s Less old new a b done
-at_most_weaken {s} {Has} {Less} {m} {old} {new} {a} {b} {done} e has g =
-    let h : SpendsAtMost s Has old new a b done = subst (λ (x : MemoState). SpendsAtMost s Has x new a b done) e g in
-    record {
-      right = h.right;
-      same = h.same;
-      counts = h.counts;
-      places = h.places;
-      gives_up = h.gives_up;
-      at_most = λ ks closed top. h.at_most ks closed (has ks top);
-      on_kept = λ ks closed top whole space. h.on_kept ks closed (has ks top) whole space;
-      saved = λ d ks closed top whole space. h.saved d ks closed (has ks top) whole space;
-    }
 
 -- what a question spends from the same beginning
 pub spends_from : {s : Sheet} {Has : List Case → Type 0} {m old new : MemoState} {a b c : Counts} {done : Bool} → m ≡ old → a ≡ b → Spends s Has m new a c done → SpendsAtMost s Has old new b c done

@@ -28,7 +28,7 @@ pub use Rattle.wi_cache.proofs.Keys.{key_itself, same_key_equiv}
 pub use Rattle.wi_cache.specs.Entries.{Entries, HasOneEach, HasSpace, KeptValues, PutsIn, PutsForGoing, PutsForOne, going, kept, last_entry, len_after, same_key, value_for}
 pub use Rattle.wi_cache.specs.Hashed.{same_key_means}
 pub use Rattle.wi_cache.specs.declared.key.Key.{Key}
-pub use Rattle.wi_engine.proofs.Ledger.{spends_at_most, spends_err, spends_then, spends_weaken, where_then}
+pub use Rattle.wi_engine.proofs.Ledger.{at_most_weaken, spends_at_most, spends_err, spends_then, spends_weaken, where_then}
 pub use Rattle.wi_engine.proofs.Places.{known_still, known_then, none_went}
 pub use Rattle.wi_engine.specs.Inner.Frames.{MayBeRead}
 pub use Rattle.wi_engine.specs.Inner.Keeps.{HasFound, Keeps}

@@ -1,5 +1,5 @@
 -- A formula's value, by what is known.
-use Rattle.wi_engine.proofs.Words.{◌≡◌, ℕ, true, false, List, Option, Some, None, IfSome, refl, ap, sym, ◌∙◌, subst, Value, Empty, Number, Text, Logical, Fault, constant, Replacement, Tree, Sheet, content_of, put_all, has_formula, Content, Constant, Formula, Assignment, AgreesWith, meaning, IsUnknown, IsOutcomeOf, Want, Cell, WhatIf, Outcome, Needs, value_by_all, same_by_all, Key, circular, ends_open, value_of, cell_value, what_if_value, value_step, value_plain, put_not_circular, same_tree, found_value, what_if_found, AreAllRight, known_in, cell_known, IsLacking, IsAttemptOf, Findings}
+use Rattle.wi_engine.proofs.Words.{◌≡◌, ℕ, true, false, List, Option, Some, None, IfSome, refl, ap, sym, ◌∙◌, subst, Value, Empty, Number, Text, Logical, Fault, constant, Replacement, Tree, Sheet, content_of, put_all, has_formula, Content, Constant, Formula, Assignment, AgreesWith, meaning, IsUnknown, IsOutcomeOf, Want, Cell, WhatIf, Outcome, Needs, value_by_all, same_by_all, Key, circular, ends_open, value_of, cell_value, what_if_value, value_step, value_plain, put_not_circular, same_tree, found_value, what_if_found, AreAllRight, known_in, cell_known, IsLacking, IsAttemptOf, Findings, Known}
 use Rattle.wi_functions.specs.declared.evaluation.Outcome.TheVariants.{Done}
 
 -- the values of a sheet's cells and what-ifs
@@ -69,3 +69,9 @@ module _ {K : Type 0} (known_cell : K → ℕ → Option Value) (known_what_if :
         (subst (λ (x : ℕ → List (ℕ × ℕ) → Option Value). IsUnknown (cell_known s k.world f) x w) what_ifs
         (subst (λ (x : ℕ → Option Value). IsUnknown x (known_what_if known) w) cells e.unknown));
   }
+
+-- what an evaluation over what is known gives for the formula of a key, the attempt gives
+pub attempted_by : (known : Known) (s : Sheet) (k : Key) (f : Findings) → known.store.now.sheet ≡ s → known.world.now ≡ k.world → known.found.now ≡ f → (t : Tree) (o : Outcome) → circular s k.cell ≡ false → content_of (put_all s k.world) k.cell ≡ Some (Formula t) → AreAllRight (cell_value (put_all s k.world)) (what_if_value (put_all s k.world)) f →
+    IsOutcomeOf (λ (x : Known). cell_known x.store.now.sheet x.world.now x.found.now) (λ (x : Known). what_if_found x.found.now) known t o → IsAttemptOf s k f o
+attempted_by known s k f store world found =
+    attempted (λ (x : Known). cell_known x.store.now.sheet x.world.now x.found.now) (λ (x : Known). what_if_found x.found.now) known s k f (rw (store, world, found) refl) (ap what_if_found found)
