@@ -9,7 +9,7 @@ ghost use Rattle.wi_engine.specs.declared.frame.Waiting.TheVariants as waiting;
 
 use crate::asked::remembered_value;
 use crate::content_ref::formula_in;
-use crate::frame::{CellStep, Frame, Unvalued, Waiting};
+use crate::frame::{Frame, Step, Unvalued, Waiting};
 use crate::memo::Memo;
 use crate::pool::Pool;
 use std::alloc::AllocError;
@@ -44,11 +44,11 @@ pub(crate) fn look_ahead<'a, M: Memo>(
     };
     let alloc = pool.allocator();
     match remembered_value(alloc, &frame.key.world, at, formula, memo)? {
-        CellStep::Ready(value) => {
+        Step::Ready(value) => {
             frame.found.add_cell(at, value, pool)?;
             Ok(None)
         }
-        CellStep::First(first) => {
+        Step::First(first) => {
             frame.waiting = Waiting::Cells(at, Vec::new(alloc));
             Ok(Some(first))
         }

@@ -7,7 +7,7 @@ ghost use Rattle.wi_engine.specs.Inner.Frames.{MayBeRead};
 ghost use Rattle.wi_engine.specs.Inner.Steps.{IsAskedOf};
 
 use crate::content_ref::{ContentRef, replaced, stored};
-use crate::frame::{CellStep, Unvalued};
+use crate::frame::{Step, Unvalued};
 use crate::memo::Memo;
 use std::alloc::{AllocError, Global};
 use wi_parser::{Content, Formula};
@@ -24,18 +24,18 @@ pub(crate) fn value_now<'a, M: Memo>(
     world: &World,
     at: Address,
     memo: &mut M,
-) -> Result<CellStep<'a>, AllocError>
+) -> Result<Step<'a, Value>, AllocError>
     requires memo { IsMemoOf store.now.sheet (M.state memo.old) }
     requires read { MayBeRead store.now.sheet (M.state memo.old) at }
     ensures asked { IfOk result (IsAskedOf store.now.sheet (M.state memo.old) world.now at) }
     ensures same { M.state memo.new ≡ M.state memo.old }
 {
     if let Some(value) = replaced(world, at) {
-        return Ok(CellStep::Ready(value.copy(alloc)?));
+        return Ok(Step::Ready(value.copy(alloc)?));
     }
     match stored(store, at) {
-        ContentRef::Nothing => Ok(CellStep::Ready(Value::Empty)),
-        ContentRef::Constant(value) => Ok(CellStep::Ready(value.copy(alloc)?)),
+        ContentRef::Nothing => Ok(Step::Ready(Value::Empty)),
+        ContentRef::Constant(value) => Ok(Step::Ready(value.copy(alloc)?)),
         ContentRef::Formula(formula) => remembered_value(alloc, world, at, formula, memo),
     }
 }
@@ -49,7 +49,7 @@ pub(crate) fn remembered_value<'a, M: Memo>(
     at: Address,
     formula: &'a Formula,
     memo: &mut M,
-) -> Result<CellStep<'a>, AllocError>
+) -> Result<Step<'a, Value>, AllocError>
     requires memo { IsMemoOf (M.state memo.old).sheet (M.state memo.old) }
     requires read { MayBeRead (M.state memo.old).sheet (M.state memo.old) at }
     requires formula { content_of (put_all (M.state memo.old).sheet world.now) at
@@ -60,7 +60,7 @@ pub(crate) fn remembered_value<'a, M: Memo>(
 {
     let key = memo.key(at, world)?;
     match memo.look(&key) {
-        Some(value) => Ok(CellStep::Ready(value.copy(alloc)?)),
-        None => Ok(CellStep::First(Unvalued { key, formula })),
+        Some(value) => Ok(Step::Ready(value.copy(alloc)?)),
+        None => Ok(Step::First(Unvalued { key, formula })),
     }
 }

@@ -15,7 +15,7 @@ ghost use Rattle.wi_engine.specs.declared.frame.Waiting.TheVariants as waiting;
 use crate::ahead::look_ahead;
 use crate::asked::value_now;
 use crate::attempt::attempt;
-use crate::frame::{CellStep, Frame, FrameStep, Unvalued, Waiting, WorldStep};
+use crate::frame::{Frame, Step, Unvalued, Waiting};
 use crate::lacking::is_lacking;
 use crate::lists::FoundWhatIf;
 use crate::memo::Memo;
@@ -37,7 +37,7 @@ fn world_of_what_if<'a, M: Memo>(
     world: &World,
     pairs: &[Pair],
     memo: &mut M,
-) -> Result<WorldStep<'a>, AllocError>
+) -> Result<Step<'a, World>, AllocError>
     requires memo { IsMemoOf store.now.sheet (M.state memo.old) }
     requires read { All (λ p.
         MayBeRead store.now.sheet (M.state memo.old) p.replacement.at) pairs.now }
@@ -50,14 +50,14 @@ fn world_of_what_if<'a, M: Memo>(
     let mut inputs = Vec::new(alloc);
     for pair in pairs {
         match value_now(alloc, store, world, pair.replacement.at, memo)? {
-            CellStep::Ready(value) => inputs.push(Replacement {
+            Step::Ready(value) => inputs.push(Replacement {
                 at: pair.input.at,
                 value,
             })?,
-            CellStep::First(input) => return Ok(WorldStep::First(input)),
+            Step::First(input) => return Ok(Step::First(input)),
         }
     }
-    Ok(WorldStep::Ready(world.with(&inputs)?))
+    Ok(Step::Ready(world.with(&inputs)?))
 }
 
 /// The next of these cells whose value a frame lacks, and takes it and those behind it away, none of which it lacks.
@@ -109,8 +109,8 @@ fn resolve_cells<'a, M: Memo>(
     let mut at = at;
     'cells: loop {
         match value_now(alloc, store, &frame.key.world, at, memo)? {
-            CellStep::Ready(value) => frame.found.add_cell(at, value, pool)?,
-            CellStep::First(first) => {
+            Step::Ready(value) => frame.found.add_cell(at, value, pool)?,
+            Step::First(first) => {
                 frame.waiting = Waiting::Cells(at, others);
                 return Ok(Some(first));
             }
@@ -145,16 +145,16 @@ fn resolve_what_if<'a, M: Memo>(
 {
     let alloc = pool.allocator();
     match world_of_what_if(alloc, store, &frame.key.world, &pairs, memo)? {
-        WorldStep::First(first) => {
+        Step::First(first) => {
             frame.waiting = Waiting::WhatIf(at, pairs);
             Ok(Some(first))
         }
-        WorldStep::Ready(world) => match value_now(alloc, store, &world, at, memo)? {
-            CellStep::First(first) => {
+        Step::Ready(world) => match value_now(alloc, store, &world, at, memo)? {
+            Step::First(first) => {
                 frame.waiting = Waiting::WhatIf(at, pairs);
                 Ok(Some(first))
             }
-            CellStep::Ready(value) => {
+            Step::Ready(value) => {
                 frame
                     .found
                     .add_what_if(FoundWhatIf { at, pairs, value }, pool)?;
@@ -215,7 +215,7 @@ pub(crate) fn advance<'a, M: Memo>(
     frame: &mut Frame<'a>,
     memo: &mut M,
     meter: &mut Meter,
-) -> Result<FrameStep<'a>, AllocError>
+) -> Result<Step<'a, Value>, AllocError>
     requires memo { IsMemoOf store.now.sheet (M.state memo.old) }
     requires frame { IsFrame store.now.sheet (M.state memo.old) frame.old }
     ensures steps { FrameSteps store.now.sheet (M.state memo.old) (M.state memo.new)
@@ -225,14 +225,14 @@ pub(crate) fn advance<'a, M: Memo>(
     ensures counts { FrameCounts store.now.sheet frame.old meter.old meter.new (is_ok result) }
 {
     if let Some(ahead) = look_ahead(pool, store, frame, memo)? {
-        return Ok(FrameStep::First(ahead));
+        return Ok(Step::First(ahead));
     }
     'rounds: loop {
         if let Some(first) = resolve(pool, store, frame, memo)? {
-            return Ok(FrameStep::First(first));
+            return Ok(Step::First(first));
         }
         match attempt(pool.allocator(), store, frame, meter)? {
-            Outcome::Done(value) => return Ok(FrameStep::Ready(value)),
+            Outcome::Done(value) => return Ok(Step::Ready(value)),
             Outcome::Needs(want) => wait_for(pool, store, frame, want)?,
         }
     }

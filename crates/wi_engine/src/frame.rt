@@ -9,8 +9,7 @@ use crate::scan::Scan;
 use std::alloc::{AllocError, Global};
 use wi_cache::Key;
 use wi_parser::{Formula, Pair};
-use wi_values::{Address, Rect, Value};
-use wi_worlds::World;
+use wi_values::{Address, Rect};
 
 /// What a frame waits for.
 #[derive(Drop)]
@@ -99,25 +98,9 @@ pub struct Unvalued<'a> {
     pub formula: &'a Formula,
 }
 
-/// What a cell shows under replacements, as far as it is there.
+/// What is wanted, where it is there, and else what has to be evaluated before it.
 #[derive(Drop)]
-pub enum CellStep<'a> {
-    Ready(Value),
-    First(Unvalued<'a>),
-}
-
-/// Replacements with those of a what-if put in, as far as its inputs' values are there.
-#[derive(Drop)]
-pub enum WorldStep<'a> {
-    Ready(World),
-    /// It has to be evaluated first.
-    First(Unvalued<'a>),
-}
-
-/// How far a frame has come.
-#[derive(Drop)]
-pub enum FrameStep<'a> {
-    Ready(Value),
-    /// It has to be evaluated first.
+pub enum Step<'a, T> {
+    Ready(T),
     First(Unvalued<'a>),
 }

@@ -16,7 +16,7 @@ ghost use Rattle.wi_engine.specs.Inner.Spends.{SpendsAtMost};
 use crate::asked::value_now;
 use crate::content_ref::formula_in;
 use crate::findings::Findings;
-use crate::frame::CellStep;
+use crate::frame::Step;
 use crate::known::Known;
 use crate::memo::Memo;
 use crate::question::Question;
@@ -75,8 +75,7 @@ impl<M: Memo + Drop> Question<M> {
             (reaching store.now.sheet plan.now.root world.now) ≡ true)) }
     {
         let alloc = self.pool.allocator();
-        let CellStep::First(cell) = value_now(alloc, store, world, plan.root, &mut self.memo)?
-        else {
+        let Step::First(cell) = value_now(alloc, store, world, plan.root, &mut self.memo)? else {
             return Ok(None);
         };
         let Some(value) = self.follow(store, world, plan)? else {
@@ -167,8 +166,8 @@ impl<M: Memo + Drop> Question<M> {
             planned.at,
             &mut self.memo,
         )? {
-            CellStep::Ready(_) => Ok(true),
-            CellStep::First(_) => Ok(false),
+            Step::Ready(_) => Ok(true),
+            Step::First(_) => Ok(false),
         }
     }
 
@@ -200,8 +199,8 @@ impl<M: Memo + Drop> Question<M> {
             return ready_value(alloc, store, world, planned.at, found, &mut self.meter);
         }
         match value_now(alloc, store, world, planned.at, &mut self.memo)? {
-            CellStep::Ready(value) => Ok(value),
-            CellStep::First(_) => unreachable!(),
+            Step::Ready(value) => Ok(value),
+            Step::First(_) => unreachable!(),
         }
     }
 }

@@ -10,7 +10,7 @@ ghost use Rattle.wi_engine.specs.Inner.Spends.{Spends, ValuesCell};
 
 use crate::asked::{remembered_value, value_now};
 use crate::engine::{advance, take_in};
-use crate::frame::{CellStep, Frame, FrameStep};
+use crate::frame::{Frame, Step};
 use crate::memo::Memo;
 use crate::pool::Pool;
 use crate::stack::Stack;
@@ -42,8 +42,8 @@ impl<M: Memo + Drop> Question<M> {
             world.now at self.old.meter self.new.meter result }
     {
         match value_now(self.pool.allocator(), store, world, at, &mut self.memo)? {
-            CellStep::Ready(value) => Ok(value),
-            CellStep::First(cell) => self.run(store, cell.key, cell.formula),
+            Step::Ready(value) => Ok(value),
+            Step::First(cell) => self.run(store, cell.key, cell.formula),
         }
     }
 
@@ -62,8 +62,8 @@ impl<M: Memo + Drop> Question<M> {
         ensures counts { self.new.meter ≡ self.old.meter }
     {
         match value_now(self.pool.allocator(), store, world, at, &mut self.memo)? {
-            CellStep::Ready(value) => Ok(Some(value)),
-            CellStep::First(_) => Ok(None),
+            Step::Ready(value) => Ok(Some(value)),
+            Step::First(_) => Ok(None),
         }
     }
 
@@ -83,8 +83,8 @@ impl<M: Memo + Drop> Question<M> {
             world.now at self.old.meter self.new.meter result }
     {
         match remembered_value(self.pool.allocator(), world, at, formula, &mut self.memo)? {
-            CellStep::Ready(remembered) => Ok(remembered),
-            CellStep::First(cell) => self.run(store, cell.key, cell.formula),
+            Step::Ready(remembered) => Ok(remembered),
+            Step::First(cell) => self.run(store, cell.key, cell.formula),
         }
     }
 
@@ -115,11 +115,11 @@ impl<M: Memo + Drop> Question<M> {
                 &mut self.memo,
                 &mut self.meter,
             )? {
-                FrameStep::First(next) => {
+                Step::First(next) => {
                     stack.reserve()?;
                     stack.push_reserved(&mut frame, next);
                 }
-                FrameStep::Ready(value) => match stack.pop(&mut frame, &mut self.pool) {
+                Step::Ready(value) => match stack.pop(&mut frame, &mut self.pool) {
                     None => {
                         let shown = value.copy(alloc)?;
                         let root = frame.retire(&mut self.pool);

@@ -18,9 +18,8 @@ use Rattle.wi_engine.specs.Inner.Frames.{Awaits, IsFrame, IsUnvaluedFormula, IsW
 use Rattle.wi_engine.specs.Inner.Saving.{KeepsFound, NeedsNoEvaluation}
 use Rattle.wi_engine.specs.Inner.SettledFrames.{IsFrameSettled}
 use Rattle.wi_engine.specs.declared.frame.Frame.{Frame}
-use Rattle.wi_engine.specs.declared.frame.CellStep as asked
-use Rattle.wi_engine.specs.declared.frame.WorldStep as inputs
-use Rattle.wi_engine.specs.declared.frame.FrameStep as advance
+use Rattle.wi_engine.specs.declared.frame.Step.{Step}
+use Rattle.wi_engine.specs.declared.frame.Step.TheVariants.{First, Ready}
 
 -- ---- what a step of a frame leaves
 
@@ -71,16 +70,16 @@ pub record IsShownNow (s : Sheet) (m : MemoState) (w : List Replacement) (a : �
   pub easy : NeedsNoEvaluation s m w a
 
 -- a cell's value, or its formula
-abbrev pub IsAskedOf : Sheet → MemoState → List Replacement → ℕ → asked.CellStep → Type 0
-IsAskedOf s m w a (asked.TheVariants.Ready v) = IsShownNow s m w a v
-IsAskedOf s m w a (asked.TheVariants.First u) = IsUnvaluedFormula s m w a u
+abbrev pub IsAskedOf : Sheet → MemoState → List Replacement → ℕ → Step Value → Type 0
+IsAskedOf s m w a (Ready v) = IsShownNow s m w a v
+IsAskedOf s m w a (First u) = IsUnvaluedFormula s m w a u
 
 -- replacements with those of a what-if put in, or the formula of a replacement cell
-abbrev pub AreInputsOf : Sheet → MemoState → List Replacement → List Pair → inputs.WorldStep → Type 0
-AreInputsOf s m w pairs (inputs.TheVariants.Ready v) = IsWorldWith s m w pairs v
-AreInputsOf s m w pairs (inputs.TheVariants.First u) = (list_any (λ p. p.1.at == u.key.cell) (map pair_of pairs) ≡ true) × IsUnvaluedFormula s m w u.key.cell u
+abbrev pub AreInputsOf : Sheet → MemoState → List Replacement → List Pair → Step (List Replacement) → Type 0
+AreInputsOf s m w pairs (Ready v) = IsWorldWith s m w pairs v
+AreInputsOf s m w pairs (First u) = (list_any (λ p. p.1.at == u.key.cell) (map pair_of pairs) ≡ true) × IsUnvaluedFormula s m w u.key.cell u
 
 -- the value of a frame as it was, for which an evaluation was counted, or a formula for which it waits now
-abbrev pub IsAdvanceOf : Sheet → MemoState → Frame → Frame → Counts → Counts → advance.FrameStep → Type 0
-IsAdvanceOf s m before after from to (advance.TheVariants.Ready v) = IsFrameValue s m before v × (to.evaluations ≡ one_more from.evaluations)
-IsAdvanceOf s m before after from to (advance.TheVariants.First u) = IsWaitedFor s m after u × (to.evaluations ≡ from.evaluations)
+abbrev pub IsAdvanceOf : Sheet → MemoState → Frame → Frame → Counts → Counts → Step Value → Type 0
+IsAdvanceOf s m before after from to (Ready v) = IsFrameValue s m before v × (to.evaluations ≡ one_more from.evaluations)
+IsAdvanceOf s m before after from to (First u) = IsWaitedFor s m after u × (to.evaluations ≡ from.evaluations)
