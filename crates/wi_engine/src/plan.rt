@@ -1,6 +1,6 @@
 //! The value of a cell where some are replaced, by the formulas between them one after another.
 
-ghost use Rattle.std.specs.Prelude.{◌≡◌, ◌≤◌, true, false, map, Some, None, Ok, IfOk, IfSome, OnErr, is_ok};
+ghost use Rattle.std.specs.Prelude.{◌≡◌, ◌≤◌, true, false, None, Ok, IfOk, IfSome, OnErr, is_ok};
 ghost use Rattle.std.specs.Bool.{OnTrue};
 ghost use Rattle.wi_parser.specs.Sheet.{content_of, has_formula, put_all};
 ghost use Rattle.wi_graph.specs.Circular.{circular};
@@ -9,7 +9,7 @@ ghost use Rattle.wi_sheet.specs.Demand.{reaching};
 ghost use Rattle.wi_sheet.specs.Inner.Spending.{HasCase};
 ghost use Rattle.wi_engine.specs.Inner.Frames.{MayBeRead};
 ghost use Rattle.wi_engine.specs.Inner.MemoState.{IsMemoOf};
-ghost use Rattle.wi_engine.specs.Inner.Plans.{AreGiven, CountsCell, CountsOne, Follows, IsReady, IsUnkept, IsWholePlan};
+ghost use Rattle.wi_engine.specs.Inner.Plans.{AreGiven, CountsCell, CountsOne, Follows, IsReady, IsUnkept, MayBeFollowed, MayBeValued};
 ghost use Rattle.wi_engine.specs.Inner.Saving.{NeedsNoEvaluation};
 ghost use Rattle.wi_engine.specs.Inner.Spends.{SpendsAtMost};
 
@@ -54,12 +54,8 @@ impl<M: Memo + Drop> Question<M> {
         world: &World,
         plan: &Plan,
     ) -> Result<Option<Value>, AllocError>
-        requires memo { IsMemoOf store.now.sheet (M.state self.old.memo) }
+        requires plan { MayBeFollowed store.now.sheet (M.state self.old.memo) world.now plan.now }
         requires full { (M.state self.old.memo).space ≡ 0 }
-        requires read { MayBeRead store.now.sheet (M.state self.old.memo) plan.now.root }
-        requires plan { IsWholePlan store.now.sheet plan.now.inputs.items plan.now.root
-            plan.now.cells.items }
-        requires inputs { map (λ r. r.at) world.now ≡ plan.now.inputs.items }
         ensures value { IfOk result (λ o. IfSome o (λ v.
             v ≡ values.cell_value (put_all store.now.sheet world.now) plan.now.root)) }
         ensures none { result ≡ Ok None → (M.state self.new.memo ≡ M.state self.old.memo)
@@ -93,14 +89,10 @@ impl<M: Memo + Drop> Question<M> {
         world: &World,
         plan: &Plan,
     ) -> Result<Option<Value>, AllocError>
-        requires memo { IsMemoOf store.now.sheet (M.state self.old.memo) }
-        requires read { MayBeRead store.now.sheet (M.state self.old.memo) plan.now.root }
+        requires plan { MayBeFollowed store.now.sheet (M.state self.old.memo) world.now plan.now }
         requires formula { has_formula (content_of
             (put_all store.now.sheet world.now) plan.now.root)
             ≡ true }
-        requires plan { IsWholePlan store.now.sheet plan.now.inputs.items plan.now.root
-            plan.now.cells.items }
-        requires inputs { map (λ r. r.at) world.now ≡ plan.now.inputs.items }
         ensures follows { Follows store.now.sheet world.now plan.now.root
             self.old.meter self.new.meter result }
         ensures same { M.state self.new.memo ≡ M.state self.old.memo }
@@ -121,14 +113,10 @@ impl<M: Memo + Drop> Question<M> {
 
     /// Whether the values are there that a plan is to be given.
     fn are_given(&mut self, store: &Store, world: &World, plan: &Plan) -> Result<bool, AllocError>
-        requires memo { IsMemoOf store.now.sheet (M.state self.old.memo) }
-        requires read { MayBeRead store.now.sheet (M.state self.old.memo) plan.now.root }
+        requires plan { MayBeFollowed store.now.sheet (M.state self.old.memo) world.now plan.now }
         requires formula { has_formula (content_of
             (put_all store.now.sheet world.now) plan.now.root)
             ≡ true }
-        requires plan { IsWholePlan store.now.sheet plan.now.inputs.items plan.now.root
-            plan.now.cells.items }
-        requires inputs { map (λ r. r.at) world.now ≡ plan.now.inputs.items }
         ensures given { IfOk result (λ b. OnTrue b (AreGiven store.now.sheet
             (M.state self.old.memo) world.now plan.now.cells.items)) }
         ensures same { M.state self.new.memo ≡ M.state self.old.memo }
@@ -179,10 +167,7 @@ impl<M: Memo + Drop> Question<M> {
         planned: Planned,
         found: &Findings,
     ) -> Result<Value, AllocError>
-        requires memo { IsMemoOf store.now.sheet (M.state self.old.memo) }
-        requires read { MayBeRead store.now.sheet (M.state self.old.memo) planned.at }
-        requires formula { has_formula (content_of (put_all store.now.sheet world.now) planned.at)
-            ≡ true }
+        requires cell { MayBeValued store.now.sheet (M.state self.old.memo) world.now planned.at }
         requires given { planned.is_given ≡ true
             → NeedsNoEvaluation store.now.sheet (M.state self.old.memo) world.now planned.at }
         requires ready { planned.is_given ≡ false

@@ -1,5 +1,5 @@
 -- An entry of a data table that is asked for: which cells may be read, and what is kept for longer.
-use Rattle.wi_propagate.proofs.Words.{◌≡◌, ◌==◌, ◌<◌, ◌+◌, ◌||◌, ℕ, zero, suc, Bool, true, false, List, [], ◌∷◌, map, take, get_or, length, All, refl, sym, ap, ◌∙◌, subst, arith, eq-eqb, or_left, or_right, All-more, list_any, Replacement, Sheet, content_of, has_formula, Counts, circular, is_one_of, Case, case_of, same_case, one_less_left, with_what_if, IsSettled, IsWhatIfSettled, HasCase, HasReplacing, HasEntry, all_more, test_of_cells, cells_open, MemoState, MayBeRead, OneQuestion, remembered, question_state, WhereSpace, IsUnkept, Saved, Spends, SpendsAtMost, at_most_weaken, spends_at_most, where_then}
+use Rattle.wi_propagate.proofs.Words.{◌≡◌, ◌==◌, ◌<◌, ◌+◌, ◌||◌, ℕ, zero, suc, Bool, true, false, List, [], ◌∷◌, map, take, get_or, length, All, refl, sym, ap, ◌∙◌, subst, arith, eq-eqb, or_left, or_right, All-more, list_any, Replacement, Sheet, content_of, has_formula, Counts, circular, is_one_of, Case, case_of, same_case, one_less_left, with_what_if, IsSettled, IsWhatIfSettled, HasCase, HasReplacing, HasEntry, all_more, test_of_cells, cells_open, MemoState, IsMemoOf, MayBeAsked, MayBeRead, OneQuestion, remembered, question_state, WhereSpace, IsUnkept, Saved, Spends, SpendsAtMost, at_most_weaken, spends_at_most, where_then}
 
 -- ---- the cells whose values it asks for
 
@@ -15,7 +15,7 @@ module _ (s : Sheet) (f : ℕ) (pairs : List (ℕ × ℕ)) (cells : List ℕ) (e
   open_cells_of = cells_open s f pairs (test_of_cells s f pairs cells edited_at ∙ clear)
 
   -- its replacement cells may be valued, where keys are made for all cells with a formula among them
-  pub replacing_readable : (order : List ℕ) (q : OneQuestion) → q ≡ remembered s order [] → ((c : ℕ) → is_one_of cells c ≡ true → has_formula (content_of s c) ≡ true → is_one_of order c ≡ true) →
+  replacing_readable : (order : List ℕ) (q : OneQuestion) → q ≡ remembered s order [] → ((c : ℕ) → is_one_of cells c ≡ true → has_formula (content_of s c) ≡ true → is_one_of order c ≡ true) →
       All (λ x. MayBeRead s (question_state q) x.1) pairs
   replacing_readable order q e roots = λ i x less.
       let c = (get_or pairs i x).1 in
@@ -26,13 +26,17 @@ module _ (s : Sheet) (f : ℕ) (pairs : List (ℕ × ℕ)) (cells : List ℕ) (e
       }
 
   -- and so may its formula cell
-  pub formula_cell_readable : (order : List ℕ) (q : OneQuestion) → q ≡ remembered s order [] → ((c : ℕ) → is_one_of cells c ≡ true → has_formula (content_of s c) ≡ true → is_one_of order c ≡ true) → MayBeRead s (question_state q) f
+  formula_cell_readable : (order : List ℕ) (q : OneQuestion) → q ≡ remembered s order [] → ((c : ℕ) → is_one_of cells c ≡ true → has_formula (content_of s c) ≡ true → is_one_of order c ≡ true) → MayBeRead s (question_state q) f
   formula_cell_readable order q e roots =
       let read = or_left (f == f) (is_one_of (map (λ p. p.1) pairs) f) (eq-eqb f f refl) in
       record {
         open_cell = open_cells_of.0;
         covered = λ h. ap (λ (y : OneQuestion). is_one_of y.cells f) e ∙ roots f (ap (λ (xs : List ℕ). is_one_of xs f) edited_at ∙ read) h;
       }
+
+  -- so that the entry may be asked for
+  pub readable_entry : (order : List ℕ) (q : OneQuestion) → q ≡ remembered s order [] → ((c : ℕ) → is_one_of cells c ≡ true → has_formula (content_of s c) ≡ true → is_one_of order c ≡ true) → IsMemoOf s (question_state q) → MayBeAsked s (question_state q) f pairs
+  readable_entry order q e roots memo = record { memo = memo; formula_cell = formula_cell_readable order q e roots; replacing = replacing_readable order q e roots }
 
 -- ---- one replacement cell more
 

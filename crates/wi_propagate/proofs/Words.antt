@@ -35,7 +35,7 @@ pub use Rattle.wi_engine.specs.Inner.Keeps.{HasFound, Keeps}
 pub use Rattle.wi_engine.specs.Inner.MemoState.{IsMemoOf, IsComplete, MemoState}
 pub use Rattle.wi_engine.specs.Inner.Remembered.{OneQuestion, question_state, remembered}
 pub use Rattle.wi_engine.specs.Inner.Saving.{GivesUpWhenFull, IsValuedAnew, KeepsFound, NeedsNoEvaluation, TakesNoMore, TakesPlaces, WhereSpace}
-pub use Rattle.wi_engine.specs.Inner.Plans.{IsUnkept, IsWholePlan}
+pub use Rattle.wi_engine.specs.Inner.Plans.{IsUnkept, IsWholePlan, MayBeFollowed}
 pub use Rattle.wi_engine.specs.Inner.Spends.{IsSameBeside, Saved, Spends, SpendsAtMost}
 pub use Rattle.wi_functions.specs.Counts.{Counts}
 pub use Rattle.wi_functions.specs.Meaning.{zero_for_empty}
@@ -60,6 +60,7 @@ pub use Rattle.wi_parser.specs.Sheet.{Sheet, cells_with_formula, content_of, has
 pub use Rattle.wi_parser.specs.declared.content.Content.{Content}
 pub use Rattle.wi_parser.specs.declared.content.Content.TheVariants.{Constant, Formula}
 pub use Rattle.wi_propagate.specs.Inner.Cones.{AreAllCones}
+pub use Rattle.wi_propagate.specs.Inner.Entries.{MayBeAsked}
 pub use Rattle.wi_propagate.specs.Inner.Keeping.{AreCarriedCones, ArePlaced, HasGeneration, IsKeepingRight, Keeping, TakesOver, begun, keeping, kept_sheet, state_in, value_in, values_in}
 pub use Rattle.wi_propagate.specs.Inner.Stamps.{AreAllStamped, AreKeptUp, Stamps, stamped_in}
 unfoldable pub use Rattle.wi_propagate.specs.Inner.Stamps.{flushed}

@@ -15,6 +15,7 @@ ghost use Rattle.wi_engine.specs.Inner.Frames.{MayBeRead};
 ghost use Rattle.wi_engine.specs.Inner.Saving.{WhereSpace};
 ghost use Rattle.wi_engine.specs.Inner.Plans.{IsUnkept};
 ghost use Rattle.wi_engine.specs.Inner.Spends.{Spends, SpendsAtMost};
+ghost use Rattle.wi_propagate.specs.Inner.Entries.{MayBeAsked};
 ghost use Rattle.wi_propagate.specs.Inner.Planned.{ArePlans};
 
 use crate::plans::Plans;
@@ -87,10 +88,7 @@ pub(crate) fn open_entry<M: Memo + Drop>(
     formula_cell: Address,
     pairs: &[(Address, Address)],
 ) -> Result<Value, AllocError>
-    requires memo { IsMemoOf store.now.sheet (M.state question.old.memo) }
-    requires formula_cell { MayBeRead store.now.sheet (M.state question.old.memo) formula_cell }
-    requires replacing { All (λ x.
-        MayBeRead store.now.sheet (M.state question.old.memo) x.1) pairs.now }
+    requires entry { MayBeAsked store.now.sheet (M.state question.old.memo) formula_cell pairs.now }
     ensures value { let inside = with_what_if store.now.sheet world.now pairs.now in
         IfOk result (λ v. v ≡ formulas.zero_for_empty
         (values.cell_value (put_all store.now.sheet inside) formula_cell)) }
@@ -122,10 +120,7 @@ pub(crate) fn planned_entry<M: Memo + Drop>(
     pairs: &[(Address, Address)],
     plans: &mut Plans,
 ) -> Result<Value, AllocError>
-    requires memo { IsMemoOf store.now.sheet (M.state question.old.memo) }
-    requires formula_cell { MayBeRead store.now.sheet (M.state question.old.memo) formula_cell }
-    requires replacing { All (λ x.
-        MayBeRead store.now.sheet (M.state question.old.memo) x.1) pairs.now }
+    requires entry { MayBeAsked store.now.sheet (M.state question.old.memo) formula_cell pairs.now }
     requires plans { ArePlans store.now.sheet plans.old }
     ensures value { let inside = with_what_if store.now.sheet world.now pairs.now in
         IfOk result (λ v. v ≡ formulas.zero_for_empty
@@ -163,10 +158,7 @@ fn entry_by_plan<M: Memo + Drop>(
     pairs: &[(Address, Address)],
     plans: &mut Plans,
 ) -> Result<Option<Value>, AllocError>
-    requires memo { IsMemoOf store.now.sheet (M.state question.old.memo) }
-    requires formula_cell { MayBeRead store.now.sheet (M.state question.old.memo) formula_cell }
-    requires replacing { All (λ x.
-        MayBeRead store.now.sheet (M.state question.old.memo) x.1) pairs.now }
+    requires entry { MayBeAsked store.now.sheet (M.state question.old.memo) formula_cell pairs.now }
     requires plans { ArePlans store.now.sheet plans.old }
     ensures value { let inside = with_what_if store.now.sheet world.now pairs.now in
         IfOk result (λ o. IfSome o (λ v.

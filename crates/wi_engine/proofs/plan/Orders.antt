@@ -2,8 +2,9 @@
 use Rattle.wi_engine.proofs.Words.{◌≡◌, ◌==◌, inl, inr, ◌⊎◌, ◌||◌, ℕ, Bool, true, false, cond, List, [], ◌∷◌, ◌++◌, map, Option, Some, All, All-nil, All-cons, All-head, All-tail, refl, ap, sym, ◌∙◌, subst, append_assoc, list_any, or_parts, or_cases, true≢false, arith, nat_tests, Value, Replacement, Sheet, constant, content_of, put_all, has_formula, content_reads, Content, plain, put_formula, circular, reads_not_circular, reaches, reaches_read, reaching_below, content_below, is_one_of, Case, case_of, reaching, RestsOn, MemoState, IsMemoOf, MayBeRead, IsDemanded, content_reads_here}
 use Rattle.wi_parser.specs.Sheet.{put}
 use Rattle.wi_sheet.proofs.Puts.{overlaid, content_of-put, content_of-put_all}
+use Rattle.wi_engine.specs.declared.plan.Plan.{Plan}
 use Rattle.wi_engine.specs.declared.plan.Planned.{Planned}
-use Rattle.wi_engine.specs.Inner.Plans.{IsNeeded, IsPlan, MayBePlanned, planned_cells}
+use Rattle.wi_engine.specs.Inner.Plans.{IsNeeded, IsPlan, MayBeFollowed, MayBePlanned, planned_cells}
 use Rattle.wi_engine.proofs.engine.NextCases.{rests_cell, here_in_sheet}
 
 -- ---- what replacements leave alone
@@ -98,5 +99,9 @@ module _ {s : Sheet} {m : MemoState} {w : List Replacement} {root : ℕ} (h : Is
         All-cons (λ x. IsReader s m w root x.at) q back (next_reader front back q e behind) behind
 
     -- all are needed
-    pub all_needed : All (λ x. IsNeeded s m w root x.at) ps
+    all_needed : All (λ x. IsNeeded s m w root x.at) ps
     all_needed = λ i d l. (readers [] ps refl i d l).needed
+
+-- all cells of a plan that may be followed are needed
+pub followed_needed : {s : Sheet} {m : MemoState} {w : List Replacement} {p : Plan} → MayBeFollowed s m w p → has_formula (content_of (put_all s w) p.root) ≡ true → All (λ x. IsNeeded s m w p.root x.at) p.cells.items
+followed_needed h form = all_needed h.memo h.read form h.plan.cells h.inputs

@@ -15,11 +15,12 @@ use Rattle.wi_functions.specs.Counts.{Counts, one_more}
 use Rattle.wi_sheet.specs.CellValue.{cell_value, what_if_value}
 use Rattle.wi_sheet.specs.Demand.{Case, case_of, reaching, what_ifs_of}
 use Rattle.wi_sheet.specs.Inner.Spending.{IsClosed, NeverFall, plus, price}
-use Rattle.wi_engine.specs.Inner.MemoState.{MemoState}
+use Rattle.wi_engine.specs.Inner.MemoState.{IsMemoOf, MemoState}
 use Rattle.wi_engine.specs.Inner.Findings.{AreAllRight, found_value, found_what_ifs}
 use Rattle.wi_engine.specs.Inner.Frames.{IsDemanded, MayBeRead, content_reads_here}
 use Rattle.wi_engine.specs.Inner.Saving.{NeedsNoEvaluation}
 use Rattle.wi_engine.specs.declared.findings.Findings.{Findings}
+use Rattle.wi_engine.specs.declared.plan.Plan.{Plan}
 use Rattle.wi_engine.specs.declared.plan.Planned.{Planned}
 use Rattle.wi_engine.specs.declared.planning.Reading.{Reading}
 
@@ -51,7 +52,20 @@ pub record IsWholePlan (s : Sheet) (inputs : List ℕ) (root : ℕ) (ps : List P
   pub cells : IsPlan s inputs root ps
   pub rests : RestsOnEarlier s inputs (planned_cells ps) root
 
+-- A plan may be followed where its inputs are replaced, and its root may be read.
+pub record MayBeFollowed (s : Sheet) (m : MemoState) (w : List Replacement) (p : Plan) : Type 0 where
+  pub memo : IsMemoOf s m
+  pub read : MayBeRead s m p.root
+  pub plan : IsWholePlan s p.inputs.items p.root p.cells.items
+  pub inputs : map (λ r. r.at) w ≡ p.inputs.items
+
 -- ---- what is so while a plan is followed
+
+-- A cell may be valued: it has a formula under the replacements, and may be read.
+pub record MayBeValued (s : Sheet) (m : MemoState) (w : List Replacement) (c : ℕ) : Type 0 where
+  pub memo : IsMemoOf s m
+  pub read : MayBeRead s m c
+  pub formula : has_formula (content_of (put_all s w) c) ≡ true
 
 -- The value of the root demands that of a cell with a formula, which may be read.
 pub record IsNeeded (s : Sheet) (m : MemoState) (w : List Replacement) (root c : ℕ) : Type 0 where

@@ -1,9 +1,18 @@
-use Rattle.wi_propagate.proofs.Words.{rules}
+use Rattle.wi_propagate.proofs.Words.{subst, sym, rules, MemoState, IsMemoOf}
 use Rattle.wi_propagate.proofs.EntryQuestions.{entry_spends}
 use Rattle.wi_propagate.proofs.table_entry.entry_by_plan.Goals as goal
 
 pub planned_value-requires-clause-plan : goal.planned_value-requires-clause-plan
-planned_value-requires-clause-plan g c = c.in-Some-find.ensures.plan c.args.store.now.sheet c.requires.plans
+planned_value-requires-clause-plan g c =
+    let s = c.args.store.now.sheet in
+    let p = c.in-Some-find.ensures in
+    let same = c.in_ok-inside.ensures.same in
+    record {
+      memo = subst (λ (x : MemoState). IsMemoOf s x) (sym same) c.requires.entry.memo;
+      read = rw (p.root, same) c.requires.entry.formula_cell;
+      plan = p.plan s c.requires.plans;
+      inputs = p.inputs;
+    }
 
 pub returns-in-Some-find-clause-spends : goal.returns-in-Some-find-clause-spends
 returns-in-Some-find-clause-spends g c =

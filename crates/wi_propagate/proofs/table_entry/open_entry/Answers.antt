@@ -25,16 +25,16 @@ pub value-requires-clause-memo : goal.value-requires-clause-memo
 value-requires-clause-memo g c = c.in_ok-replaced.ensures.spends.right
 
 pub with_inputs-requires-clause-memo : goal.with_inputs-requires-clause-memo
-with_inputs-requires-clause-memo g c = c.requires.memo
+with_inputs-requires-clause-memo g c = c.requires.entry.memo
 
 pub with_inputs-requires-clause-replacing : goal.with_inputs-requires-clause-replacing
-with_inputs-requires-clause-replacing g c = c.requires.replacing
+with_inputs-requires-clause-replacing g c = c.requires.entry.replacing
 
 pub value-requires-clause-read : goal.value-requires-clause-read
 value-requires-clause-read g c =
     record {
-      open_cell = c.requires.formula_cell.open_cell;
-      covered = λ h. ap (λ (cs : ℕ → Bool). cs c.args.formula_cell) c.in_ok-replaced.ensures.spends.same.covers ∙ c.requires.formula_cell.covered h;
+      open_cell = c.requires.entry.formula_cell.open_cell;
+      covered = λ h. ap (λ (cs : ℕ → Bool). cs c.args.formula_cell) c.in_ok-replaced.ensures.spends.same.covers ∙ c.requires.entry.formula_cell.covered h;
     }
 
 pub returns-clause-value : goal.returns-clause-value

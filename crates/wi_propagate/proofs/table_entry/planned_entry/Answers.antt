@@ -1,4 +1,4 @@
-use Rattle.wi_propagate.proofs.Words.{List, Option, Ok, OnOk, Case, ap, subst, Value, HasEntry, IsWhatIfSettled, MemoState, WhereSpace}
+use Rattle.wi_propagate.proofs.Words.{List, Option, Ok, OnOk, Case, ap, sym, subst, Value, HasEntry, IsWhatIfSettled, MayBeAsked, MemoState, WhereSpace}
 use Rattle.wi_propagate.proofs.EntryQuestions.{entry_no_space, spends_from}
 use Rattle.wi_propagate.proofs.table_entry.planned_entry.Goals as goal
 
@@ -12,6 +12,11 @@ returns-in-Some-clause-settled g c =
     entry_no_space s w c.args.formula_cell c.args.pairs.now (λ ks. IsWhatIfSettled s (g.M.Memo.state c.entry_by_plan.new.question.memo).kept w (c.args.formula_cell, c.args.pairs.now)) full.0 full.1
 
 -- ---- without one
+
+pub open_entry-result-requires-clause-entry : goal.open_entry-result-requires-clause-entry
+open_entry-result-requires-clause-entry g c =
+    let none = c.in_ok-value.ensures.none (ap (λ (o : Option Value). Ok o) c.in-None.is) in
+    subst (λ (x : MemoState). MayBeAsked c.args.store.now.sheet x c.args.formula_cell c.args.pairs.now) (sym none.0) c.requires.entry
 
 pub returns-in-None-clause-spends : goal.returns-in-None-clause-spends
 returns-in-None-clause-spends g c =

@@ -1,5 +1,5 @@
 use Rattle.wi_propagate.proofs.Words.{◌≡◌, true, false, sym, ◌∙◌, IfOk-weaker, list_any, circular, entry_demanded, never_fall-same, spent_nothing, spent_price, put_alone, test_of_cells, table_closed, entry_circular, entry_has, entry_shown}
-use Rattle.wi_propagate.proofs.EntryQuestions.{open_cells_of, replacing_readable, formula_cell_readable}
+use Rattle.wi_propagate.proofs.EntryQuestions.{open_cells_of, readable_entry}
 use Rattle.wi_propagate.proofs.table_entry.table_entry.Goals as goal
 
 pub returns-in_default-clause-value : goal.returns-in_default-clause-value
@@ -9,12 +9,12 @@ returns-in_default-clause-value c =
     let cyclic : list_any (circular s) c.deref.result.now ≡ true = sym (rw c.in_default.is at c.in_ok-order.ensures.circular) in
     sym (entry_circular s c.args.replacements.now c.args.formula_cell c.args.pairs.now (test ∙ cyclic))
 
-pub open_entry-result-requires-clause-replacing : goal.open_entry-result-requires-clause-replacing
-open_entry-result-requires-clause-replacing c =
+pub open_entry-result-requires-clause-entry : goal.open_entry-result-requires-clause-entry
+open_entry-result-requires-clause-entry c =
     let s = c.args.store.now.sheet in
     let clear : list_any (circular s) c.deref.result.now ≡ false = sym (rw c.in-Some.is at c.in_ok-order.ensures.circular) in
     let roots = rw c.in-Some.is at c.in_ok-order.ensures.roots in
-    replacing_readable s c.args.formula_cell c.args.pairs.now c.deref.result.now (c.deref.ensures.value ∙ c.in_ok-cells.ensures) clear c.in-Some.order.items c.new-memo.result c.new-memo.ensures.value roots
+    readable_entry s c.args.formula_cell c.args.pairs.now c.deref.result.now (c.deref.ensures.value ∙ c.in_ok-cells.ensures) clear c.in-Some.order.items c.new-memo.result c.new-memo.ensures.value roots c.new-memo.ensures.right
 
 pub returns-clause-value : goal.returns-clause-value
 returns-clause-value c =
@@ -48,13 +48,3 @@ returns-in_err-world-clause-spends c = (never_fall-same c.args.meter.now, spent_
 
 pub new-memo-requires : goal.new-memo-requires
 new-memo-requires c = record { order = rw c.in-Some.is at c.in_ok-order.ensures.order }
-
-pub open_entry-result-requires-clause-memo : goal.open_entry-result-requires-clause-memo
-open_entry-result-requires-clause-memo c = c.new-memo.ensures.right
-
-pub open_entry-result-requires-clause-formula_cell : goal.open_entry-result-requires-clause-formula_cell
-open_entry-result-requires-clause-formula_cell c =
-    let s = c.args.store.now.sheet in
-    let clear : list_any (circular s) c.deref.result.now ≡ false = sym (rw c.in-Some.is at c.in_ok-order.ensures.circular) in
-    let roots = rw c.in-Some.is at c.in_ok-order.ensures.roots in
-    formula_cell_readable s c.args.formula_cell c.args.pairs.now c.deref.result.now (c.deref.ensures.value ∙ c.in_ok-cells.ensures) clear c.in-Some.order.items c.new-memo.result c.new-memo.ensures.value roots

@@ -1,7 +1,7 @@
 use Rattle.wi_engine.proofs.Words.{◌≡◌, ◌+◌, ◌∙◌, true, rules, take, All, All-more, subst, sym, arith, common_steps, MemoState, MayBeRead, NeedsNoEvaluation}
 use Rattle.wi_engine.specs.declared.plan.Planned.{Planned}
 use Rattle.wi_engine.specs.Inner.Plans.{AreGiven, IsNeeded}
-use Rattle.wi_engine.proofs.plan.Orders.{all_needed}
+use Rattle.wi_engine.proofs.plan.Orders.{followed_needed}
 use Rattle.wi_engine.proofs.plan.Following.{item_of}
 use Rattle.wi_engine.proofs.question.Question.are_given.Goals as goal
 
@@ -11,7 +11,7 @@ is_there-requires-clause-read g c =
     let m = g.M.Memo.state c.args.self.now.memo in
     let w = c.args.world.now in
     let root = c.args.plan.now.root in
-    let all = all_needed c.requires.memo c.requires.read c.requires.formula c.requires.plan.cells c.requires.inputs in
+    let all = followed_needed c.requires.plan c.requires.formula in
     let need = item_of c.deref-planned-items.ensures.value c.loop-planned.planned-index c.planned-item.result c.loop-planned-test.true c.planned-item.is (λ p. IsNeeded s m w root p.at) all in
     subst (λ (x : MemoState). MayBeRead s x c.planned-item.result.at) (sym c.loop-planned.invariant.same) need.readable
 

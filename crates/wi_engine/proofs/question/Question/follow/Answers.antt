@@ -1,7 +1,7 @@
-use Rattle.wi_engine.proofs.Words.{◌≡◌, ◌∙◌, ℕ, true, false, rules, take, All, Option, Some, None, ap, refl, subst, sym, arith, common_steps, List, is_one_of, is_some, Value, Sheet, content_of, MemoState, MayBeRead, NeedsNoEvaluation, Findings, found_value}
+use Rattle.wi_engine.proofs.Words.{◌≡◌, ◌∙◌, ℕ, true, false, rules, take, All, Option, Some, None, ap, refl, subst, sym, arith, common_steps, List, is_one_of, is_some, Value, Sheet, content_of, MemoState, NeedsNoEvaluation, Findings, found_value}
 use Rattle.wi_engine.specs.declared.plan.Planned.{Planned}
-use Rattle.wi_engine.specs.Inner.Plans.{AreFound, IsNeeded, planned_cells}
-use Rattle.wi_engine.proofs.plan.Orders.{all_needed, stays_formula, stays_there}
+use Rattle.wi_engine.specs.Inner.Plans.{AreFound, IsNeeded, MayBeValued, planned_cells}
+use Rattle.wi_engine.proofs.plan.Orders.{followed_needed, stays_formula, stays_there}
 use Rattle.wi_engine.proofs.plan.Following.{IsFollowing, item_of, item_planned, one_more_item, is_ready, cell_at_most, following_at_most, following_more, following_none, follows_err, follows_root, root_apart}
 use Rattle.wi_engine.proofs.question.Question.follow.Goals as goal
 
@@ -11,18 +11,15 @@ loop-planned-init g c = record {
   following = rw c.in_ok-are_given.ensures.counts (following_none c.args.self.now.meter c.new-found.ensures.cells c.new-found.ensures.what_ifs);
 }
 
-pub planned_cell-requires-clause-read : goal.planned_cell-requires-clause-read
-planned_cell-requires-clause-read g c =
+pub planned_cell-requires-clause-cell : goal.planned_cell-requires-clause-cell
+planned_cell-requires-clause-cell g c =
     let s = c.args.store.now.sheet in
-    let all = all_needed c.requires.memo c.requires.read c.requires.formula c.requires.plan.cells c.requires.inputs in
-    let need = item_of c.deref-planned-items.ensures.value c.loop-planned.planned-index c.planned-item.result c.loop-planned-test.true c.planned-item.is (λ p. IsNeeded s (g.M.Memo.state c.args.self.now.memo) c.args.world.now c.args.plan.now.root p.at) all in
-    subst (λ (x : MemoState). MayBeRead s x c.planned-item.result.at) (sym c.loop-planned.invariant.same) need.readable
-
-pub planned_cell-requires-clause-formula : goal.planned_cell-requires-clause-formula
-planned_cell-requires-clause-formula g c =
-    let s = c.args.store.now.sheet in
-    let all = all_needed c.requires.memo c.requires.read c.requires.formula c.requires.plan.cells c.requires.inputs in
-    (item_of c.deref-planned-items.ensures.value c.loop-planned.planned-index c.planned-item.result c.loop-planned-test.true c.planned-item.is (λ p. IsNeeded s (g.M.Memo.state c.args.self.now.memo) c.args.world.now c.args.plan.now.root p.at) all).formula
+    let m = g.M.Memo.state c.args.self.now.memo in
+    let w = c.args.world.now in
+    let all = followed_needed c.requires.plan c.requires.formula in
+    let need = item_of c.deref-planned-items.ensures.value c.loop-planned.planned-index c.planned-item.result c.loop-planned-test.true c.planned-item.is (λ p. IsNeeded s m w c.args.plan.now.root p.at) all in
+    let may : MayBeValued s m w c.planned-item.result.at = record { memo = c.requires.plan.memo; read = need.readable; formula = need.formula } in
+    subst (λ (x : MemoState). MayBeValued s x w c.planned-item.result.at) (sym c.loop-planned.invariant.same) may
 
 pub planned_cell-requires-clause-given : goal.planned_cell-requires-clause-given
 planned_cell-requires-clause-given g c =
@@ -38,13 +35,13 @@ pub planned_cell-requires-clause-ready : goal.planned_cell-requires-clause-ready
 planned_cell-requires-clause-ready g c =
     let s = c.args.store.now.sheet in
     let w = c.args.world.now in
-    let may = item_planned c.deref-planned-items.ensures.value c.loop-planned.planned-index c.planned-item.result c.loop-planned-test.true c.planned-item.is c.requires.plan.cells in
-    let stays = stays_there s w c.planned-item.result.at (ap (λ (xs : List ℕ). is_one_of xs c.planned-item.result.at) c.requires.inputs ∙ may.kept) in
-    λ e. is_ready c.requires.inputs (may.rests e) stays c.loop-planned.invariant.following.found
+    let may = item_planned c.deref-planned-items.ensures.value c.loop-planned.planned-index c.planned-item.result c.loop-planned-test.true c.planned-item.is c.requires.plan.plan.cells in
+    let stays = stays_there s w c.planned-item.result.at (ap (λ (xs : List ℕ). is_one_of xs c.planned-item.result.at) c.requires.plan.inputs ∙ may.kept) in
+    λ e. is_ready c.requires.plan.inputs (may.rests e) stays c.loop-planned.invariant.following.found
 
 pub add_cell-requires : goal.add_cell-requires
 add_cell-requires g c =
-    let may = item_planned c.deref-planned-items.ensures.value c.loop-planned.planned-index c.planned-item.result c.loop-planned-test.true c.planned-item.is c.requires.plan.cells in
+    let may = item_planned c.deref-planned-items.ensures.value c.loop-planned.planned-index c.planned-item.result c.loop-planned-test.true c.planned-item.is c.requires.plan.plan.cells in
     none (found_value c.loop-planned.found c.planned-item.result.at) (c.loop-planned.invariant.following.found.known c.planned-item.result.at ∙ may.once)
   where
     none : (o : Option Value) → is_some o ≡ false → o ≡ None
@@ -56,9 +53,9 @@ loop-planned-preserved g c =
     let s = c.args.store.now.sheet in
     let w = c.args.world.now in
     let m = g.M.Memo.state c.args.self.now.memo in
-    let all = all_needed c.requires.memo c.requires.read c.requires.formula c.requires.plan.cells c.requires.inputs in
+    let all = followed_needed c.requires.plan c.requires.formula in
     let need = item_of c.deref-planned-items.ensures.value c.loop-planned.planned-index c.planned-item.result c.loop-planned-test.true c.planned-item.is (λ p. IsNeeded s m w c.args.plan.now.root p.at) all in
-    let may = item_planned c.deref-planned-items.ensures.value c.loop-planned.planned-index c.planned-item.result c.loop-planned-test.true c.planned-item.is c.requires.plan.cells in
+    let may = item_planned c.deref-planned-items.ensures.value c.loop-planned.planned-index c.planned-item.result c.loop-planned-test.true c.planned-item.is c.requires.plan.plan.cells in
     let more = one_more_item c.deref-planned-items.ensures.value c.loop-planned.planned-index c.planned-item.result c.loop-planned-test.true c.planned-item.is in
     record {
       same = c.in_ok-value.ensures.same ∙ c.loop-planned.invariant.same;
@@ -72,7 +69,7 @@ ready_value-requires-clause-ready g c =
     let w = c.args.world.now in
     let whole : take c.loop-planned.planned-index c.deref-planned-items.result.now ≡ c.deref-planned-items.result.now = grind (arith, common_steps) in
     let found = subst (λ (ps : List Planned). AreFound s w (planned_cells ps) c.loop-planned.found) (whole ∙ c.deref-planned-items.ensures.value) c.loop-planned.invariant.following.found in
-    is_ready c.requires.inputs c.requires.plan.rests (stays_formula s w c.args.plan.now.root c.requires.formula) found
+    is_ready c.requires.plan.inputs c.requires.plan.plan.rests (stays_formula s w c.args.plan.now.root c.requires.formula) found
 
 pub returns-in_err-value-clause-follows : goal.returns-in_err-value-clause-follows
 returns-in_err-value-clause-follows g c =
@@ -85,9 +82,9 @@ returns-in_err-add_cell-clause-follows g c =
     let s = c.args.store.now.sheet in
     let w = c.args.world.now in
     let m = g.M.Memo.state c.args.self.now.memo in
-    let all = all_needed c.requires.memo c.requires.read c.requires.formula c.requires.plan.cells c.requires.inputs in
+    let all = followed_needed c.requires.plan c.requires.formula in
     let need = item_of c.deref-planned-items.ensures.value c.loop-planned.planned-index c.planned-item.result c.loop-planned-test.true c.planned-item.is (λ p. IsNeeded s m w c.args.plan.now.root p.at) all in
-    let may = item_planned c.deref-planned-items.ensures.value c.loop-planned.planned-index c.planned-item.result c.loop-planned-test.true c.planned-item.is c.requires.plan.cells in
+    let may = item_planned c.deref-planned-items.ensures.value c.loop-planned.planned-index c.planned-item.result c.loop-planned-test.true c.planned-item.is c.requires.plan.plan.cells in
     let most = cell_at_most c.loop-planned.invariant.following may need c.in_ok-value.ensures.counts in
     follows_err c.from_residual-in_err-add_cell.result c.from_residual-in_err-add_cell.ensures.0 most.0 most.1
 
@@ -103,4 +100,4 @@ returns-clause-follows g c =
     let w = c.args.world.now in
     let whole : take c.loop-planned.planned-index c.deref-planned-items.result.now ≡ c.deref-planned-items.result.now = grind (arith, common_steps) in
     let i = subst (λ (ps : List Planned). IsFollowing s w c.args.plan.now.root ps c.loop-planned.found c.args.self.now.meter c.loop-planned.self.meter) (whole ∙ c.deref-planned-items.ensures.value) c.loop-planned.invariant.following in
-    follows_root i (root_apart c.requires.plan.cells) c.in_ok-value-2.ensures.counts c.in_ok-value-2.ensures.value
+    follows_root i (root_apart c.requires.plan.plan.cells) c.in_ok-value-2.ensures.counts c.in_ok-value-2.ensures.value

@@ -16,21 +16,17 @@ pub new-memo-requires-clause-right : goal.new-memo-requires-clause-right
 new-memo-requires-clause-right c =
     begun_right c.self.inside.store (flushed c.self.inside.store.sheet c.flush.new.self.edited_at) c.self.inside.carried c.self.inside.meter _ c.take_carried-carried.ensures.values (settled_right {s = c.self.inside.store} c.in_ok-flush.ensures.edited_at c.self.inside.carried c.self.inside.meter c.self.invariant.3)
 
-pub planned_entry-result-requires-clause-formula_cell : goal.planned_entry-result-requires-clause-formula_cell
-planned_entry-result-requires-clause-formula_cell c =
+pub planned_entry-result-requires-clause-entry : goal.planned_entry-result-requires-clause-entry
+planned_entry-result-requires-clause-entry c =
     let i = c.self.inside in
     let q = begins i.store (flushed i.store.sheet c.flush.new.self.edited_at) i.carried i.meter _ c.new-memo.result c.take_carried-carried.ensures.values c.new-memo.ensures.value c.new-memo.ensures.placed in
     let s = i.store.sheet in
     let o = open_cells s c.args.formula_cell c.args.pairs.now c.entry_is_circular.result (c.entry_is_circular.ensures s c.self.invariant.1) c.if-entry_is_circular.false in
-    may_be_read q c.args.formula_cell o.0
-
-pub planned_entry-result-requires-clause-replacing : goal.planned_entry-result-requires-clause-replacing
-planned_entry-result-requires-clause-replacing c =
-    let i = c.self.inside in
-    let q = begins i.store (flushed i.store.sheet c.flush.new.self.edited_at) i.carried i.meter _ c.new-memo.result c.take_carried-carried.ensures.values c.new-memo.ensures.value c.new-memo.ensures.placed in
-    let s = i.store.sheet in
-    let o = open_cells s c.args.formula_cell c.args.pairs.now c.entry_is_circular.result (c.entry_is_circular.ensures s c.self.invariant.1) c.if-entry_is_circular.false in
-    λ j x less. may_be_read q (get_or c.args.pairs.now j x).1 (o.1 j x less)
+    record {
+      memo = c.new-memo.ensures.memo;
+      formula_cell = may_be_read q c.args.formula_cell o.0;
+      replacing = λ j x less. may_be_read q (get_or c.args.pairs.now j x).1 (o.1 j x less);
+    }
 
 pub invariant_of-self-2 : goal.invariant_of-self-2
 invariant_of-self-2 c =
@@ -69,9 +65,6 @@ returns-clause-settled c =
 
 pub new-memo-requires-clause-cones : goal.new-memo-requires-clause-cones
 new-memo-requires-clause-cones c = c.take_carried-carried.ensures.cones c.self.inside.store.sheet c.self.invariant.4
-
-pub planned_entry-result-requires-clause-memo : goal.planned_entry-result-requires-clause-memo
-planned_entry-result-requires-clause-memo c = c.new-memo.ensures.memo
 
 pub returns-then-entry_is_circular-clause-owes : goal.returns-then-entry_is_circular-clause-owes
 returns-then-entry_is_circular-clause-owes c = owes_none c.args.self.now _ _
