@@ -13,10 +13,10 @@ returns-in-Some-clause-settled g c =
 
 -- ---- without one
 
-pub open_entry-result-requires-clause-entry : goal.open_entry-result-requires-clause-entry
-open_entry-result-requires-clause-entry g c =
+pub open_entry-result-requires : goal.open_entry-result-requires
+open_entry-result-requires g c =
     let none = c.in_ok-value.ensures.none (ap (λ (o : Option Value). Ok o) c.in-None.is) in
-    subst (λ (x : MemoState). MayBeAsked c.args.store.now.sheet x c.args.formula_cell c.args.pairs.now) (sym none.0) c.requires.entry
+    record { entry = subst (λ (x : MemoState). MayBeAsked c.args.store.now.sheet x c.args.formula_cell c.args.pairs.now) (sym none.0) c.requires.entry }
 
 pub returns-in-None-clause-spends : goal.returns-in-None-clause-spends
 returns-in-None-clause-spends g c =

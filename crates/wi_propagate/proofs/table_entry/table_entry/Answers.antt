@@ -9,12 +9,12 @@ returns-in_default-clause-value c =
     let cyclic : list_any (circular s) c.deref.result.now ≡ true = sym (rw c.in_default.is at c.in_ok-order.ensures.circular) in
     sym (entry_circular s c.args.replacements.now c.args.formula_cell c.args.pairs.now (test ∙ cyclic))
 
-pub open_entry-result-requires-clause-entry : goal.open_entry-result-requires-clause-entry
-open_entry-result-requires-clause-entry c =
+pub open_entry-result-requires : goal.open_entry-result-requires
+open_entry-result-requires c =
     let s = c.args.store.now.sheet in
     let clear : list_any (circular s) c.deref.result.now ≡ false = sym (rw c.in-Some.is at c.in_ok-order.ensures.circular) in
     let roots = rw c.in-Some.is at c.in_ok-order.ensures.roots in
-    readable_entry s c.args.formula_cell c.args.pairs.now c.deref.result.now (c.deref.ensures.value ∙ c.in_ok-cells.ensures) clear c.in-Some.order.items c.new-memo.result c.new-memo.ensures.value roots c.new-memo.ensures.right
+    record { entry = readable_entry s c.args.formula_cell c.args.pairs.now c.deref.result.now (c.deref.ensures.value ∙ c.in_ok-cells.ensures) clear c.in-Some.order.items c.new-memo.result c.new-memo.ensures.value roots c.new-memo.ensures.right }
 
 pub returns-clause-value : goal.returns-clause-value
 returns-clause-value c =
