@@ -66,12 +66,12 @@ taken_fails {B} known args i default convert r v e k g t =
     ends_so (Agrees {A = B} {B = B} known (IsMissing known args) (λ x. x) (λ cells. convert (value_or default (arguments_in cells args) i))) r (Error e) k
     (λ cells a. ap convert (itself (value_or default (arguments_in cells args) i) v (g cells a)) ∙ sym t)
 
-pub sought_halts : (known : ℕ → Option Value) (args : List given.Argument) (i : ℕ) (zero : Value) (r : Result (Bor Value) (NoValue ℕ)) (h : NoValue ℕ) →
-    zero ≡ Number zero_number → IsErrAnd r (λ y. y ≡ h) → Agrees {A = Bor Value} {B = Value} known (IsMissing known args) (λ v. v.now) (λ cells. no_error (value_or zero (arguments_in cells args) i)) (Err h) →
+pub sought_halts : (known : ℕ → Option Value) (args : List given.Argument) (i : ℕ) (nought : Value) (r : Result (Bor Value) (NoValue ℕ)) (h : NoValue ℕ) →
+    nought ≡ Number zero_number → IsErrAnd r (λ y. y ≡ h) → Agrees {A = Bor Value} {B = Value} known (IsMissing known args) (λ v. v.now) (λ cells. no_error (value_or nought (arguments_in cells args) i)) (Err h) →
     Agrees {A = Bor Value} {B = Value} known (IsMissing known args) (λ v. v.now) (λ cells. and_then (λ v. Ok (sought_for v)) (no_error (value_at (arguments_in cells args) i))) r
-sought_halts known args i zero r h z k g =
+sought_halts known args i nought r h z k g =
     ends_so (Agrees {A = Bor Value} {B = Value} known (IsMissing known args) (λ v. v.now) (λ cells. and_then (λ v. Ok (sought_for v)) (no_error (value_at (arguments_in cells args) i)))) r h k
-    (passes_on {A = Bor Value} {B = Value} {C = Bor Value} {D = Value} known (IsMissing known args) (λ v. v.now) (λ v. v.now) (λ cells. no_error (value_or zero (arguments_in cells args) i)) (λ cells. and_then (λ v. Ok (sought_for v)) (no_error (value_at (arguments_in cells args) i))) h
+    (passes_on {A = Bor Value} {B = Value} {C = Bor Value} {D = Value} known (IsMissing known args) (λ v. v.now) (λ v. v.now) (λ cells. no_error (value_or nought (arguments_in cells args) i)) (λ cells. and_then (λ v. Ok (sought_for v)) (no_error (value_at (arguments_in cells args) i))) h
     (λ cells e q.
     sought_or_zero (arguments_in cells args) i
     ∙ ap (λ (w : Value). and_then (λ (v : Value). Ok (sought_for v)) (no_error (value_or w (arguments_in cells args) i))) (sym z)
