@@ -1,7 +1,7 @@
 -- What a line asks for, by its name and its words.
 use Rattle.wi_cli.proofs.Vocabulary.{◌≡◌, ℕ, suc, ◌+◌, ◌<◌, ◌≤◌, Bool, true, false, ◌||◌, ◌&&◌, not, cond, eqb, List, [], ◌∷◌, length, take, refl, sym, ap, ◌∙◌, subst, ⊎_elim, Option, None, Some, Result, Err, list_all, position_or_len, before_first, after_first, is_utf8, IsUtf8, or_cases, eqb-true, le-ltb, lt-ltb, false_from_ne_true, arith, false≢true, is_utf8-from_IsUtf8, IsUtf8-from_is_utf8, codes, Refusal, Refused, is_space, skip_spaces, first_word, after_word, without_cr, is_all_spaces, is_comment, CsvLine, csv_named, csv_by_name, csv_text, csv_line, edit_command, named_command, spelled_command, text_command, line_command, IsCommandOf, IsAsked}
 use Rattle.wi_scenarios.specs.declared.refusal.Refusal.TheVariants.{Memory, BadCommand, BadLine}
-use Rattle.wi_scenarios.specs.Step.{Call}
+use Rattle.wi_cli.specs.Inner.Calls.{Call}
 use Rattle.wi_cli.specs.declared.line.Line.{Line}
 use Rattle.wi_cli.specs.declared.line.Line.TheVariants as read
 use Rattle.wi_cli.specs.declared.command.Command.{Command as ReadCommand}

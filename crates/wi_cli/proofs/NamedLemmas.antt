@@ -1,7 +1,7 @@
 -- A command by its name and its words.
 use Rattle.wi_cli.proofs.Vocabulary.{◌≡◌, ℕ, Bool, true, false, cond, List, refl, sym, ap, ◌∙◌, subst, Result, codes, bytes_eq, bytes_eq-Decides, read_rect, Refusal, Refused, first_word, after_word, of_name, of_operand, read_side, is_all_spaces, compare_command, edit_command, named_command, IsCommandOf}
 use Rattle.wi_scenarios.specs.declared.refusal.Refusal.TheVariants.{BadCommand}
-use Rattle.wi_scenarios.specs.Step.{Call, Compare}
+use Rattle.wi_cli.specs.Inner.Calls.{Call, Compare}
 use Rattle.wi_cli.specs.declared.command.Command.{Command as ReadCommand}
 
 -- a word that is none of the other names is an edit's

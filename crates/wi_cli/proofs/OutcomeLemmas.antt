@@ -1,9 +1,9 @@
 -- A run of a script so far, and how it may end.
 use Rattle.wi_cli.proofs.Vocabulary.{◌≡◌, ℕ, ◌+◌, ◌-◌, ◌<◌, ◌≤◌, Bool, true, false, List, [], ◌∷◌, ◌++◌, length, take, refl, sym, ap, ◌∙◌, subst, Option, None, Some, Result, Ok, Err, IfErr, OnOk, append_assoc, append-nil, length-append, inl, inr, arith, concat, option_to_list, Appends, Keeps, Consumes, IsAtEnd, prepend_known, Appends-trans, Appends-nil, Appends-kept, take_at, filter_map-append, filter-append, concat-append, take-append-add, RunFault, Memory, Read, Write, ScriptLimit, State, Takes, raw_lines, Block, blocks, is_complete, block_command, commands, whole_lines, all_commands, complete_commands, AreWhole, AreBlocks, TookBlock, BrokeBlock, Turned, Stopped, WritesReplies, RunOutcome, WritesFrontOfReplies, limited, IsRun}
 use Rattle.std.specs.List.{filter, filter_map}
-use Rattle.wi_scenarios.specs.Step.{Call}
+use Rattle.wi_cli.specs.Inner.Calls.{Call}
 use Rattle.wi_cli.specs.Inner.Turn.{CutShort}
-use Rattle.wi_cli.proofs.Ties.Outcomes.{same_outcome}
+use Rattle.wi_cli.proofs.Ties.Outcomes.{has_outcome}
 use Rattle.wi_cli.proofs.ReadingLemmas.{Takes-trans}
 use Rattle.wi_cli.proofs.RunLemmas.{WritesReplies-append, WritesReplies-none}
 use Rattle.wi_cli.proofs.LineLemmas.{AreWhole-none, AreWhole-append, last_whole, some_line}
@@ -327,7 +327,7 @@ run_is remaining read_failed contents write_failed flushed r source source' sink
   out = h.1;
   taken = h.2;
   written = h.3;
-  outcome = (same_outcome r (remaining source') s t h.0 h.1).0 h.4;
+  outcome = has_outcome r (remaining source') s t h.0 h.1 h.4;
   all_read = all_read;
   reads = reads;
   writes = writes;

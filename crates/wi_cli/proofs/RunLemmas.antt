@@ -1,7 +1,7 @@
 -- Runs, one after another.
 use Rattle.wi_cli.proofs.Vocabulary.{◌≡◌, ℕ, List, [], ◌∷◌, ◌++◌, refl, sym, ap, ◌∙◌, subst, Option, None, Some, Ok, Err, append-nil, inl, inr, concat, option_to_list, concat-append, Refusal, refused, State, Reply, Passed, Done, MayAnswer, WritesReplies, Told, reply_bytes, RefusedAs}
 use Rattle.wi_scenarios.specs.declared.refusal.Refusal.TheVariants.{Memory}
-use Rattle.wi_scenarios.specs.Step.{Call, IsCallStep}
+use Rattle.wi_cli.specs.Inner.Calls.{Call, IsCallStep}
 use Rattle.wi_cli.specs.declared.reply.Reply.TheVariants.{Refused}
 use Rattle.wi_cli.specs.Inner.Run.{Runs}
 

@@ -2,8 +2,8 @@
 use Rattle.wi_cli.proofs.Vocabulary.{◌≡◌, ℕ, Bool, true, false, List, [], ◌++◌, refl, sym, ap, ◌∙◌, subst, Some, Result, Ok, Err, append-nil, has_session, bytes_of, Refusal, State, CallMayLackMemory, Done, command_of, Told, IsServed, RefusedAs}
 use Rattle.wi_scenarios.specs.declared.refusal.Refusal.TheVariants.{Memory}
 use Rattle.wi_scenarios.specs.Answer as answer
-use Rattle.wi_scenarios.specs.Step.{Call, IsCallStep}
-use Rattle.wi_scenarios.specs.Step as spell
+use Rattle.wi_cli.specs.Inner.Calls.{Call, IsCallStep}
+use Rattle.wi_cli.specs.Inner.Calls as spell
 use Rattle.wi_cli.specs.declared.reply.Reply.TheVariants.{Refused}
 use Rattle.wi_cli.specs.declared.command.Command.{Command as ReadCommand}
 use Rattle.wi_cli.specs.declared.command.Command.TheVariants as read

@@ -2,8 +2,6 @@
 pub mod Uniqueness
 pub mod Codes
 pub mod Tables
-pub mod Tests
-pub mod EditSteps
 pub mod Looks
 pub mod CsvSteps
 pub mod Sets
@@ -14,8 +12,6 @@ pub mod Steps
 pub mod Lacks
 pub mod Wants
 pub mod Replies
-pub mod Events
-pub mod Chains
 pub mod Written
 pub mod Addresses
 pub mod Rects

@@ -1,6 +1,6 @@
 -- A line served, and its reply written.
 use Rattle.wi_cli.proofs.Vocabulary.{◌≡◌, ℕ, ◌+◌, ◌<◌, ◌≤◌, Bool, ◌||◌, not, cond, ltb, ap, refl, ◌∙◌, ⊎_elim, Some, List, ◌++◌, length, take, drop, sym, subst, Option, None, [], Appends-nil, length-append, arith, option_to_list, Appends, Appends-trans, take-append-drop, take-append-le, length-take, take_all, lt-ltb, cases_lt, is_utf8, Refused, without_cr, take-append-add, AppendsFront, State, Passed, Reply, Told, reply_bytes, csv_line, line_command, text_command, line_front, RunFault, Result, Err, Broke, Memory, Read, Write, ScriptLimit, TookLine, TookBlock, BrokeBlock, Turned, Stopped, WritesReplies, Ok, MatchResult, CanRead, ReadsOn, IsReplied}
-use Rattle.wi_scenarios.specs.Step.{Call}
+use Rattle.wi_cli.specs.Inner.Calls.{Call}
 use Rattle.wi_scenarios.specs.declared.refusal.Refusal.TheVariants.{BadLine}
 use Rattle.wi_cli.specs.Inner.Turn.{CutShort}
 use Rattle.wi_cli.proofs.RunLemmas.{WritesReplies-told}

@@ -1,6 +1,6 @@
 -- The words of the library, of the crates below and of this crate's definitions that its proofs are written in.
 pub use Rattle.memchr.specs.Find.{NoneBefore, Nowhere, Passes, is_byte}
-pub use Rattle.std.proofs.Common.{Bool, Err, IfErr, IfOk, List, None, Ok, OnOk, Option, Result, Some, [], ap, append-nil, append_assoc, ap₂, arith, bytes_eq, codes, cond, drop, eqb, false, filter, filter_map, get_or, if◌then◌else◌, inl, inr, is_some, length, length-append, ltb, map, max, min, nat_eq, nat_le, nat_lt, not, ok_or, option_map, refl, rules, subst, subst₂, suc, sym, take, tests, true, vec_capacity, zero, ℕ, ⊎_elim, ◌%◌, ◌&&◌, ◌*◌, ◌++◌, ◌+◌, ◌-◌, ◌/◌, ◌<◌, ◌==◌, ◌||◌, ◌↔◌, ◌∙◌, ◌∷◌, ◌≡◌, ◌≢◌, ◌≤◌, ◌⊎◌}
+pub use Rattle.std.proofs.Common.{Bool, Err, IfErr, IfOk, List, None, Ok, OnOk, Option, Result, Some, [], ap, append-nil, append_assoc, ap₂, arith, bytes_eq, codes, cond, drop, eqb, false, filter, filter_map, get_or, if◌then◌else◌, inl, inr, length, length-append, ltb, map, max, min, nat_eq, nat_le, nat_lt, not, ok_or, option_map, refl, rules, subst, subst₂, suc, sym, take, tests, true, vec_capacity, zero, ℕ, ⊎_elim, ◌%◌, ◌&&◌, ◌*◌, ◌++◌, ◌+◌, ◌-◌, ◌/◌, ◌<◌, ◌==◌, ◌||◌, ◌∙◌, ◌∷◌, ◌≡◌, ◌≤◌, ◌⊎◌}
 pub use Rattle.std.proofs.KnownBytes.{Appends-kept, Appends-nil, Appends-trans, Consumes-nil, Consumes-trans}
 pub use Rattle.std.proofs.Math.Bool.{or-false, or-true}
 pub use Rattle.std.proofs.Math.Seq.{drop-append_seam, take-add, take-append-add, take-append_seam}
@@ -8,9 +8,8 @@ pub use Rattle.std.proofs.lemmas.Bool.{and_parts, both_ways, cases_lt, eqb-true,
 pub use Rattle.std.proofs.lemmas.Bool.Decides.{nat_tests}
 pub use Rattle.std.proofs.lemmas.List.{drop_all, drop_more, get_or-take, length-drop, length-take, nil_from_length, take-append-drop, take-append-le, take_all, take_at, take_min, take_rest}
 pub use Rattle.std.proofs.lemmas.List.Elements.{filter-append, filter_map-append}
-pub use Rattle.std.proofs.lemmas.List.Folds.{Any-from_list_any, concat-append, length-prefix_len, list_all-append, list_any-append, list_any-from_Any}
+pub use Rattle.std.proofs.lemmas.List.Folds.{concat-append, length-prefix_len, list_all-append, list_any-append}
 pub use Rattle.std.proofs.lemmas.List.Sums.{passes_at_first, split_at_first}
-pub use Rattle.std.proofs.lemmas.Option.{none-some}
 pub use Rattle.std.proofs.lemmas.Result.{err_from_is_err_and, on_err_weaker, on_ok_weaker}
 pub use Rattle.std.proofs.lemmas.Slice.Eq.{bytes_eq-Decides}
 pub use Rattle.std.proofs.lemmas.Str.{IsCharBoundary-before_ascii, IsCharBoundary-end, IsUtf8-from_is_utf8, encode_ascii, is_utf8-from_IsUtf8}
@@ -18,15 +17,14 @@ pub use Rattle.std.proofs.lemmas.Str.Pattern.{drop_at_char, strip_prefix_char}
 pub use Rattle.std.specs.Char.{digit_value, is_ascii_alphabetic, is_ascii_digit}
 pub use Rattle.std.specs.Cmp.Lexicographic.{pointwise}
 pub use Rattle.std.specs.Io.KnownBytes.{Appends, Consumes, IsAtEnd, Keeps, prepend_known}
-pub use Rattle.std.specs.List.{AllZip, Any, Contains, after_first, before_first, concat, cons_option, list_all, list_any, position_or_len, prefix_len, slice_index_or}
-pub use Rattle.std.specs.Map.{keys_of}
+pub use Rattle.std.specs.List.{Contains, after_first, before_first, concat, cons_option, list_all, list_any, position_or_len, prefix_len}
 pub use Rattle.std.specs.Option.{IfSome, option_to_list}
-pub use Rattle.std.specs.Prelude.{All, MatchResult}
+pub use Rattle.std.specs.Prelude.{MatchResult}
 pub use Rattle.std.specs.Result.{result_err}
 pub use Rattle.std.specs.Str.{IsCharBoundary, IsUtf8, all_ascii_digits, byte, is_utf8}
 pub use Rattle.std.specs.Str.Parse.{digits_value, digits_value_after}
 pub use Rattle.std.specs.Str.Pattern.{CutsPrefixes, FindsCharPrefix, IsTrimStartMatches}
-pub use Rattle.wi_cli.specs.Events.{AreEvents, GivesChain, KeepsChains, Runs, is_changes, named_by}
+pub use Rattle.wi_cli.specs.Events.{AreEvents, Runs}
 pub use Rattle.wi_cli.specs.InTurn.{RunInTurn}
 pub use Rattle.wi_cli.specs.Inner.Ahead.{Takes, budget}
 pub use Rattle.wi_cli.specs.Inner.Asked.{IsAsked}
@@ -53,7 +51,7 @@ pub use Rattle.wi_cli.specs.Inner.TableCommand.{table_command, table_of_one, tab
 pub use Rattle.wi_cli.specs.Inner.Taken.{AreBlocks, AreBlocksOf, AreWhole, BrokeLines, TookLines}
 pub use Rattle.wi_cli.specs.Inner.Told.{IsServed, RefusedAs, Told, reply_bytes}
 pub use Rattle.wi_cli.specs.Inner.Turn.{BrokeBlock, IsReplied, Stopped, TookBlock, Turned}
-pub use Rattle.wi_cli.specs.Laws.{HasCommands, HasOneAnswer, SameAddr, SameCommands, SameLack, SameOutcome, SameRect, SameReply, SameRuns, SameStep, Splits, a_line, asked, before, cut_short, blocks_that_count, line_block, none, read_any, read_by, read_cell, read_area, was}
+pub use Rattle.wi_cli.specs.Laws.{HasCommands, SameAddr, SameCommands, SameRect, Splits, a_line, asked, calls_of, cut_short, blocks_that_count, line_block, none, read_any, read_by, read_cell, read_area, call_of}
 pub use Rattle.wi_cli.specs.Lines.{Bytes, after_word, first_word, is_space, is_whole, max_line, max_lines, onto_first, raw_lines, skip_spaces, without_cr, without_lf}
 pub use Rattle.wi_cli.specs.Outcome.{IsRun, Outcome, Writes}
 pub use Rattle.wi_cli.specs.Reply.{Replies, accepted, cell_named, late, unserved}
@@ -67,64 +65,37 @@ pub use Rattle.wi_cli.specs.declared.fault.RunFault.TheVariants.{Memory, Read, S
 pub use Rattle.wi_cli.specs.declared.reply.Reply.{Reply}
 pub use Rattle.wi_cli.specs.declared.reply.Reply.TheVariants.{Done, Passed}
 pub use Rattle.wi_csv.specs.Records.{recs}
-pub use Rattle.wi_edit_log.specs.EditLog.{Entry}
 pub use Rattle.wi_import.proofs.ImportLemmas.{some_import}
-pub use Rattle.wi_import.specs.Fields.{Field, IsInside, areas_from, fields_at, fields_from, record_areas_at}
-pub use Rattle.wi_import.specs.Imports.{AreChanges, IsFault, IsImport, bad_field, out_of_sheet, too_long}
-pub use Rattle.wi_import.specs.Inner.Reading.{IsText, IsTooLong}
-pub use Rattle.wi_import.specs.declared.fault.ImportFault.{ImportFault}
-pub use Rattle.wi_parser.proofs.ContentsOfTexts.{content_is_one, is_fault, one_content}
-pub use Rattle.wi_parser.specs.Contents.{IsContent}
-pub use Rattle.wi_parser.specs.Inner.Answered.{HasFault, IsAnsweredAs, IsFirstFault, faults}
+pub use Rattle.wi_import.specs.Fields.{Field, areas_from, fields_at, fields_from, record_areas_at}
+pub use Rattle.wi_import.specs.Imports.{IsImport}
+pub use Rattle.wi_parser.proofs.ContentsOfTexts.{content_is_one}
+pub use Rattle.wi_parser.specs.Inner.Answered.{IsAnsweredAs}
 pub use Rattle.wi_parser.specs.Inner.Reading.{content_read}
-pub use Rattle.wi_parser.specs.Reads.{cell_area}
-pub use Rattle.wi_parser.specs.Sheet.{content_of}
 pub use Rattle.wi_parser.specs.declared.content.Content.{Content}
 pub use Rattle.wi_parser.specs.declared.fault.ParseFault.{ParseFault}
 pub use Rattle.wi_propagate.specs.KeptSheet.{KeptSheet}
-pub use Rattle.wi_reports.specs.Changes.{change_records}
-pub use Rattle.wi_reports.specs.Compare.{cells_compared}
-pub use Rattle.wi_reports.specs.Contents.{content_record}
-pub use Rattle.wi_reports.specs.Rows.{export_of, rows_shown}
-pub use Rattle.wi_reports.specs.Table.{table_of}
-pub use Rattle.wi_scenario_list.proofs.ChainsKept.{based_kept, dropped_kept, has_space, is_chain, no_scenarios, own_kept}
-pub use Rattle.wi_scenario_list.specs.Bases.{HasChains, based_on, is_base, is_name_of, lacks, would_loop}
-pub use Rattle.wi_scenario_list.specs.Inner.Chains.{chain, effective}
-pub use Rattle.wi_scenario_list.specs.Scenarios.{has_scenario, is_full, is_named, scenario_for, with_own, without_own, without_scenario}
-pub use Rattle.wi_scenarios.proofs.EventLemmas.{TellsAndLogs}
-pub use Rattle.wi_scenarios.proofs.RecordLemmas.{records_tell_list}
-pub use Rattle.wi_scenarios.proofs.RunLemmas.{new_is_coherent}
-pub use Rattle.wi_scenarios.proofs.StaleLemmas.{refused_so, stale_since}
-pub use Rattle.wi_scenarios.proofs.StepLemmas.{an_answer, no_other}
+pub use Rattle.wi_scenario_list.specs.Bases.{lacks}
+pub use Rattle.wi_scenario_list.specs.Scenarios.{has_scenario, is_full}
 pub use Rattle.wi_scenarios.specs.Answer.{Answer, MayGrow, may_grow}
-pub use Rattle.wi_scenarios.specs.Causes.{no_cause}
-pub use Rattle.wi_scenarios.specs.Changes.{change_list}
-pub use Rattle.wi_scenarios.specs.Commands.Causes.{BadCommand, BadField, BadLine, Cause, CutShort, EditLimit, Full, Holds, InUse, IsFirst, LeavesSheet, Loop, NoScenario, NumberRange, OutOfSheet, Outside, Stale, Syntax, TooDeep, TooLarge, TooLong, TooMany, is_missing, lies_outside, order, size, stale_cell}
+pub use Rattle.wi_scenarios.specs.Commands.Causes.{BadCommand, BadField, BadLine, Cause, CutShort, EditLimit, Full, Holds, InUse, IsFirst, LeavesSheet, Loop, NoScenario, NumberRange, OutOfSheet, Outside, Stale, Syntax, TooDeep, TooLarge, TooLong, TooMany, lies_outside, order, stale_cell}
 pub use Rattle.wi_scenarios.specs.Commands.Command.{As, Base, Changes, Clear, Command, Compare, Csv, Drop, Export, Fill, Formula, Scenario, Set, Show, Table, Unknown, Unreadable, Use, form}
-pub use Rattle.wi_scenarios.specs.Commands.Does.{Does, state_with}
-pub use Rattle.wi_scenarios.specs.Commands.Edits.{Put, Puts, after_edit, copy_in, fields, is_forced, named, sheet_with}
+pub use Rattle.wi_scenarios.specs.Commands.Edits.{fields, named}
 pub use Rattle.wi_scenarios.specs.Commands.Operands.{ADDR, ANY, CONTENT, Cell, Corners, LINES, NAME, Operand, RECT, SESSION, SIDE, WORD, address, area, is_outside}
 pub use Rattle.wi_scenarios.specs.Commands.Step.{IsFirstOf, IsStep, Tells, causes}
-pub use Rattle.wi_scenarios.specs.Csv.{ImportOutcome, csv_answer}
-pub use Rattle.wi_scenarios.specs.Edits.{edit_answer, stale_in}
-pub use Rattle.wi_scenarios.specs.Events.{Event, ForcedIsNotStale, IsCoherent, IsFirstNewer, KeepsApart, ListsAddUp, LogGrows, MayFollow, MayHappen, RecordsTellList, StaleIsNewer, StaysCoherent, counts_before, edits_since, is_accepted_changes, is_refused_before, is_told, left_by, logged, state_after, unseen, with_lists}
-pub use Rattle.wi_scenarios.specs.Fill.{copy_to, has_no_copy, or_nothing}
+pub use Rattle.wi_scenarios.specs.Events.{MayHappen, left_by}
 pub use Rattle.wi_scenarios.specs.Pending.{Book}
-pub use Rattle.wi_scenarios.specs.Set.{fault_in, set_answer, set_edit}
 pub use Rattle.wi_scenarios.specs.State.{State, max_area, new_state, state_over}
-pub use Rattle.wi_scenarios.specs.Step.{CallMayLackMemory, Refused}
-pub use Rattle.wi_scenarios.specs.Views.{current_replacements, current_session, session_at, with_current}
+pub use Rattle.wi_cli.specs.Inner.Calls.{CallMayLackMemory, Refused}
 pub use Rattle.wi_scenarios.specs.declared.refusal.Refusal.{Refusal}
-pub use Rattle.wi_sessions.specs.Sessions.{Session, has_session, index_of, max_sessions, told, using_scenario, with_session}
+pub use Rattle.wi_sessions.specs.Sessions.{has_session}
 pub use Rattle.wi_store.specs.Store.{Stored}
 pub use Rattle.wi_store.specs.declared.limits.Limits.{Limits}
 pub use Rattle.wi_values.proofs.Imports.{imported_exactly}
 pub use Rattle.wi_values.proofs.Letters.{letters_of_column}
-pub use Rattle.wi_values.proofs.Lists.{Any-weaker}
 pub use Rattle.wi_values.proofs.ReadsBack.{no_letters, scan}
 pub use Rattle.wi_values.proofs.Spelling.{digits_step, letters_above_zero}
 pub use Rattle.wi_values.proofs.Within.{column_of_place, row_of_place}
-pub use Rattle.wi_values.specs.Address.{Area, cells_of, column_of, columns, is_column, is_row, is_row_number, is_within, letters_value, place, rect_of, row_of, rows, size_of}
+pub use Rattle.wi_values.specs.Address.{Area, column_of, columns, is_column, is_row, is_row_number, letters_value, place, rect_of, row_of, rows, size_of}
 unfoldable pub use Rattle.wi_values.specs.Address.{address_text, letters_within}
 pub use Rattle.wi_values.specs.AddressReading.{cell_at, corners}
 unfoldable pub use Rattle.wi_values.specs.AddressReading.{address_at, read_address, read_rect}
@@ -133,4 +104,3 @@ pub use Rattle.wi_values.specs.Inner.Import.{imported}
 pub use Rattle.wi_values.specs.Name.{bytes_of, is_name, read_name}
 pub use Rattle.wi_values.specs.declared.address.AddressFault.{AddressFault}
 pub use Rattle.wi_values.specs.declared.address.AddressFault.TheVariants.{Shape}
-pub use Rattle.wi_values.specs.declared.value.Value.{Value}

@@ -1,17 +1,13 @@
--- That commands, lines and runs are what the code's own contracts say.
-use Rattle.std.specs.Prelude.{◌≡◌, ◌↔◌, ◌⊎◌, ◌||◌, ◌-◌, ◌<◌, ◌==◌, ℕ, Bool, true, false, List, [], ◌∷◌, ◌++◌, length, map, filter, filter_map, Option, Some, None, Result, Ok, Err, if◌then◌else◌}
+-- As which calls commands and lines are read.
+use Rattle.std.specs.Prelude.{◌≡◌, ◌⊎◌, ◌||◌, ◌-◌, ◌<◌, ◌==◌, ℕ, Bool, true, false, List, [], ◌∷◌, ◌++◌, length, map, filter, filter_map, Option, Some, None, Result, Ok, Err, if◌then◌else◌}
 use Rattle.wi_values.specs.Address.{Area}
 use Rattle.wi_values.specs.AddressReading.{read_address, read_rect}
 use Rattle.wi_values.specs.declared.address.AddressFault.{AddressFault}
 use Rattle.wi_values.specs.declared.address.AddressFault.TheVariants.{Shape, Outside as AtOutside}
 use Rattle.wi_scenarios.specs.declared.refusal.Refusal.TheVariants as refusal
-use Rattle.wi_scenarios.specs.State.{State}
-use Rattle.wi_scenarios.specs.Step as old
+use Rattle.wi_cli.specs.Inner.Calls as call
 use Rattle.wi_scenarios.specs.Commands.Operands.{Cell, Corners, is_outside, address, area}
 use Rattle.wi_scenarios.specs.Commands.Command.{Command, Set, Clear, Fill, Csv, Scenario, Drop, Base, Use, As, Show, Export, Compare, Table, Formula, Changes, Unknown, Unreadable}
-use Rattle.wi_scenarios.specs.Answer.{Answer}
-use Rattle.wi_scenarios.specs.Commands.Step.{IsStep}
-use Rattle.wi_cli.specs.declared.fault.RunFault.{RunFault}
 use Rattle.wi_cli.specs.Lines.{without_lf, Bytes}
 use Rattle.wi_cli.specs.Inner.Operands.{of_operand}
 use Rattle.wi_cli.specs.Inner.EditCommands.{fill_command_of}
@@ -19,13 +15,8 @@ use Rattle.wi_cli.specs.Inner.TableCommand.{table_of_one, table_of_two}
 use Rattle.wi_cli.specs.Inner.CsvCommand.{csv_command, csv_line}
 use Rattle.wi_cli.specs.Inner.Blocks.{Block, lines_of, blocks, is_complete}
 use Rattle.wi_cli.specs.Inner.Script.{block_command}
-use Rattle.wi_cli.specs.Inner.Run as old_run
-use Rattle.wi_cli.specs.Inner.RunOutcome.{RunOutcome}
 use Rattle.wi_cli.specs.Spelled.{IsAddr, IsRect}
-use Rattle.wi_cli.specs.Reply.{MayLackMemory, Replies}
 use Rattle.wi_cli.specs.Script.{Asks, AreCommands}
-use Rattle.wi_cli.specs.Events.{Runs}
-use Rattle.wi_cli.specs.Outcome.{Outcome}
 
 -- ---- what operands were read as
 
@@ -53,45 +44,26 @@ pub record SameRect (word : Bytes) : Type 0 where
 
 -- ---- commands
 
--- the command as it was
-abbrev pub was : Command → old.Call
-was (Set force at text) = if length text == 0 then old.Refused refusal.BadCommand else of_operand (read_cell at) (λ a. old.Set force a text)
-was (Clear force rect) = of_operand (read_area rect) (λ r. old.Clear force r)
-was (Fill force at rect) = fill_command_of force (read_cell at) (read_area rect)
-was (Csv force at n lines) = csv_command force (read_any at) lines (n - length lines)
-was (Scenario name at text) = of_operand (read_cell at) (λ a. old.Scenario name a text)
-was (Drop name) = old.Drop name
-was (Base name other) = old.Base name other
-was (Use name) = old.Use name
-was (As name) = old.As name
-was (Show rect) = of_operand (read_area rect) (λ r. old.Show r)
-was (Export rect) = of_operand (read_area rect) (λ r. old.Export r)
-was (Compare p q rect) = of_operand (read_area rect) (λ r. old.Compare p q r)
-was (Table f r xs None) = table_of_one (read_cell f) (read_cell r) (read_area xs)
-was (Table f r xs (Some y)) = table_of_two (read_cell f) (read_cell r) (read_area xs) (read_cell y.0) (read_area y.1)
-was (Formula at) = of_operand (read_cell at) (λ a. old.Formula a)
-was Changes = old.Changes
-was Unknown = old.Refused refusal.BadCommand
-was Unreadable = old.Refused refusal.BadLine
-
--- the command has the answers that it had
-abbrev pub SameStep : State → Command → Type 0
-SameStep s c = (a : Answer) → old.IsCallStep s (was c) a ↔ IsStep s c a
-
--- it has one answer
-abbrev pub HasOneAnswer : State → Command → Type 0
-HasOneAnswer s c = (a : Answer) × IsStep s c a × ((b : Answer) → IsStep s c b → a ≡ b)
-
--- "out of memory" may stand in place of an answer where it might before
-abbrev pub SameLack : State → Command → Type 0
-SameLack s c = old.CallMayLackMemory s (was c) ↔ MayLackMemory s c
-
--- a command, and commands, have the replies that they had, and leave the same state
-abbrev pub SameReply : State → Command → Bytes → State → Type 0
-SameReply s c told t = old_run.MayAnswer s (was c) told t ↔ Replies s c told t
-
-abbrev pub SameRuns : State → List Command → List Bytes → State → Type 0
-SameRuns s cs rs t = old_run.Runs s (map was cs) rs t ↔ Runs s cs rs t
+-- the call that a command is read as
+abbrev pub call_of : Command → call.Call
+call_of (Set force at text) = if length text == 0 then call.Refused refusal.BadCommand else of_operand (read_cell at) (λ a. call.Set force a text)
+call_of (Clear force rect) = of_operand (read_area rect) (λ r. call.Clear force r)
+call_of (Fill force at rect) = fill_command_of force (read_cell at) (read_area rect)
+call_of (Csv force at n lines) = csv_command force (read_any at) lines (n - length lines)
+call_of (Scenario name at text) = of_operand (read_cell at) (λ a. call.Scenario name a text)
+call_of (Drop name) = call.Drop name
+call_of (Base name other) = call.Base name other
+call_of (Use name) = call.Use name
+call_of (As name) = call.As name
+call_of (Show rect) = of_operand (read_area rect) (λ r. call.Show r)
+call_of (Export rect) = of_operand (read_area rect) (λ r. call.Export r)
+call_of (Compare p q rect) = of_operand (read_area rect) (λ r. call.Compare p q r)
+call_of (Table f r xs None) = table_of_one (read_cell f) (read_cell r) (read_area xs)
+call_of (Table f r xs (Some y)) = table_of_two (read_cell f) (read_cell r) (read_area xs) (read_cell y.0) (read_area y.1)
+call_of (Formula at) = of_operand (read_cell at) (λ a. call.Formula a)
+call_of Changes = call.Changes
+call_of Unknown = call.Refused refusal.BadCommand
+call_of Unreadable = call.Refused refusal.BadLine
 
 -- ---- lines
 
@@ -117,19 +89,13 @@ abbrev pub blocks_that_count : Bool → List Block → List Block
 blocks_that_count true bs = bs
 blocks_that_count false bs = filter is_complete bs
 
--- the commands that lines had
-abbrev pub before : Bool → List Bytes → List old.Call
-before ended lines = filter_map block_command (blocks_that_count ended (blocks lines))
+-- the calls that lines are read as
+abbrev pub calls_of : Bool → List Bytes → List call.Call
+calls_of ended lines = filter_map block_command (blocks_that_count ended (blocks lines))
 
--- lines have commands, which are these as they were; and any that they have are
-abbrev pub HasCommands : Bool → List Bytes → List old.Call → Type 0
-HasCommands ended lines commands = (cs : List Command) × AreCommands ended lines cs × (commands ≡ map was cs)
+-- lines have commands, which are read as these calls; and any that they have are
+abbrev pub HasCommands : Bool → List Bytes → List call.Call → Type 0
+HasCommands ended lines commands = (cs : List Command) × AreCommands ended lines cs × (commands ≡ map call_of cs)
 
 abbrev pub SameCommands : Bool → List Bytes → List Command → Type 0
-SameCommands ended lines cs = AreCommands ended lines cs → before ended lines ≡ map was cs
-
--- ---- runs
-
--- the outcome of a run is what it was
-abbrev pub SameOutcome : Result (Unit {0}) RunFault → Option Bytes → State → State → Bytes → Bytes → Type 0
-SameOutcome r left s t input out = RunOutcome r left s t input out ↔ Outcome left s t input out r
+SameCommands ended lines cs = AreCommands ended lines cs → calls_of ended lines ≡ map call_of cs

@@ -2,7 +2,7 @@
 
 ghost use Rattle.std.specs.Prelude.{true, Some};
 ghost use Rattle.wi_scenarios.specs.declared.refusal.Refusal.TheVariants.{BadCommand};
-ghost use Rattle.wi_scenarios.specs.Step.{Refused};
+ghost use Rattle.wi_cli.specs.Inner.Calls.{Refused};
 ghost use Rattle.wi_cli.specs.Lines.{first_word, after_word};
 ghost use Rattle.wi_cli.specs.Inner.CsvCommand.{csv_operands, csv_named};
 ghost use Rattle.wi_cli.specs.Inner.EditCommands.{set_command, clear_command, fill_command, fill_command_of, edit_command};

@@ -3,7 +3,7 @@
 ghost use Rattle.std.specs.Prelude.{◌≡◌, ◌||◌, true, false, Some};
 ghost use Rattle.std.specs.Str.{is_utf8};
 ghost use Rattle.wi_scenarios.specs.declared.refusal.Refusal.TheVariants.{BadLine};
-ghost use Rattle.wi_scenarios.specs.Step.{Refused};
+ghost use Rattle.wi_cli.specs.Inner.Calls.{Refused};
 ghost use Rattle.wi_cli.specs.Lines.{without_cr};
 ghost use Rattle.wi_cli.specs.Inner.Operands.{is_all_spaces};
 ghost use Rattle.wi_cli.specs.Inner.CsvCommand.{csv_by_name, csv_text, csv_line};

@@ -1,7 +1,7 @@
 //! The commands that show what a workbook holds, as they are read.
 
 ghost use Rattle.wi_values.specs.AddressReading.{read_rect};
-ghost use Rattle.wi_scenarios.specs.Step.{Compare};
+ghost use Rattle.wi_cli.specs.Inner.Calls.{Compare};
 ghost use Rattle.wi_cli.specs.Inner.Operands.{of_name, of_operand, read_side};
 ghost use Rattle.wi_cli.specs.Inner.LookCommands.{show_command, export_command, changes_command, compare_command, formula_command};
 ghost use Rattle.wi_cli.specs.Inner.Spelling.{IsCommandOf};

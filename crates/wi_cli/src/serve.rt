@@ -1,7 +1,7 @@
 //! What a command is answered.
 
 ghost use Rattle.std.specs.Prelude.{◌≡◌, ◌++◌, List, ℕ, Some};
-ghost use Rattle.wi_scenarios.specs.Step as spell;
+ghost use Rattle.wi_cli.specs.Inner.Calls as spell;
 ghost use Rattle.wi_cli.specs.Inner.Spelling.{command_of, IsCommandOf};
 ghost use Rattle.wi_cli.specs.Inner.Told.{IsServed, Told};
 

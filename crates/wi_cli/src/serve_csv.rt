@@ -2,8 +2,8 @@
 
 ghost use Rattle.std.specs.Prelude.{◌≡◌, [], List, ℕ, Some};
 ghost use Rattle.wi_scenarios.specs.Answer.{ServesData};
-ghost use Rattle.wi_scenarios.specs.Step as call;
-ghost use Rattle.wi_scenarios.specs.Step.{IsCallStep};
+ghost use Rattle.wi_cli.specs.Inner.Calls as call;
+ghost use Rattle.wi_cli.specs.Inner.Calls.{IsCallStep};
 ghost use Rattle.wi_cli.specs.Inner.Data.{wants, HoldsLines, command_of_csv, target_of, IsTarget};
 ghost use Rattle.wi_cli.specs.Inner.Told.{Told};
 

@@ -1,6 +1,8 @@
 -- What an edit is answered, and what is pending after it.
-use Rattle.wi_scenarios.proofs.Words.{◌≡◌, ◌==◌, ◌<◌, ◌≤◌, ℕ, zero, suc, Bool, true, false, not, ◌&&◌, ◌||◌, ◌⊎◌, inl, inr, List, [], ◌∷◌, ◌++◌, length, map, ⊎_elim, Option, Some, None, Result, Ok, Err, refl, sym, ap, ◌∙◌, subst, arith, slice_index_or, IfOk, IsErrAnd, err_from_is_err_and, keys_of, cases_lt, false_from_ne_true, false≢true, or_left, or_right, or_parts, or_cases, length-keys_of, nat_tests, Area, Replacement, Content, Sheet, StoreFault, Stored, edited, change_without_empty, applied, shown, IsMarking, same_off_edited, accepted_is, Entry, Scenario, effective, value_in, sheet_size, is_one_of, Session, new_session, Roster, pending_of, vacant_of, is_pending_for_all, all_have_so, one_of_all_has, Refusal, Memory, Stale, Desk, State, Answer, may_grow, MayRefuse, Serves, no_cause, answer, Edit, edit_refusal, limit_of, stale_in, with_stored, edit_answer, is_pending, AddsOnly, state_of, AreCovered, IsClosed, AreClosed, IsSound, AreMarked, HasRooms, SameBeside, MayFail, Commits, is_itself}
+use Rattle.wi_scenarios.proofs.Words.{◌≡◌, ◌==◌, ◌<◌, ◌≤◌, ℕ, zero, suc, Bool, true, false, not, ◌&&◌, ◌||◌, ◌⊎◌, inl, inr, List, [], ◌∷◌, ◌++◌, length, map, ⊎_elim, Option, Some, None, Result, Ok, Err, refl, sym, ap, ◌∙◌, subst, arith, slice_index_or, IfOk, IsErrAnd, err_from_is_err_and, keys_of, cases_lt, false_from_ne_true, false≢true, or_left, or_right, or_parts, or_cases, length-keys_of, nat_tests, Area, Replacement, Content, Sheet, StoreFault, Stored, edited, change_without_empty, applied, shown, IsMarking, same_off_edited, accepted_is, Entry, Scenario, effective, value_in, sheet_size, is_one_of, Session, new_session, Roster, pending_of, vacant_of, is_pending_for_all, all_have_so, one_of_all_has, Refusal, Memory, Desk, State, Answer, may_grow, MayRefuse, Serves, Edit, limit_of, stale_in, with_stored, edit_answer, is_pending, AddsOnly, state_of, AreCovered, IsClosed, AreClosed, IsSound, AreMarked, HasRooms, SameBeside, MayFail, Commits, is_itself, answer_by}
 use Rattle.wi_store.specs.declared.fault.StoreFault.TheVariants as store
+use Rattle.wi_scenarios.proofs.CommandWords.{Command, IsStep}
+use Rattle.wi_scenarios.proofs.AnswerLemmas.{serves_as}
 
 -- an edit of these
 pub same_edit : (named areas : List Area) (contents changes : List (ℕ × Option Content)) → named ≡ areas → contents ≡ changes →
@@ -9,57 +11,49 @@ same_edit named areas contents changes n c = cc
 
 -- ---- the answer
 
--- the answer that is found, where a cell is stale or none is
-abbrev pub found_by : State → Option ℕ → List Area → Result Stored StoreFault → Answer
-found_by s (Some at) named r = Err (Stale at)
-found_by s None named (Ok stored) = Ok (with_stored s named (Ok stored), [])
-found_by s None named (Err e) = Err (edit_refusal e)
-
-by_causes : (s : State) (o : Option ℕ) (named : List Area) (r : Result Stored StoreFault) → answer (record no_cause { stale = o; limit = limit_of r }) (with_stored s named r, []) ≡ found_by s o named r
-by_causes s (Some at) named r = refl
-by_causes s None named (Ok stored) = refl
-by_causes s None named (Err e) = refl
-
-edit_found : (s : State) (force : Bool) (e : Edit) → edit_answer s force no_cause e ≡ found_by s (stale_in s force e.named) e.named (applied s.stored e.contents)
-edit_found s force e = by_causes s (stale_in s force e.named) e.named (applied s.stored e.contents)
+-- a call that did as the answer to an edit says, which is one of a command's step
+pub edit_serves : (s : State) (c : Command) (force : Bool) (e f : Edit) → e ≡ f → IsStep s c (edit_answer s force f) → (r : Result (Unit {0}) Refusal) (t : State)
+    → Serves (λ a. edit_answer s force e ≡ a) r s t [] → Serves (IsStep s c) r s t []
+edit_serves s c force e f same is r t =
+    serves_as (λ a. edit_answer s force e ≡ a) (IsStep s c) (λ a k. subst (IsStep s c) (ap (edit_answer s force) (sym same) ∙ k) is) r s t []
 
 -- where no cell is stale
-edit_fresh : (s : State) (force : Bool) (e : Edit) → stale_in s force e.named ≡ None → edit_answer s force no_cause e ≡ found_by s None e.named (applied s.stored e.contents)
-edit_fresh s force e h = edit_found s force e ∙ ap (λ (o : Option ℕ). found_by s o e.named (applied s.stored e.contents)) h
+edit_fresh : (s : State) (force : Bool) (e : Edit) → stale_in s force e.named ≡ None → edit_answer s force e ≡ answer_by s None e.named (applied s.stored e.contents)
+edit_fresh s force e h = ap (λ (o : Option ℕ). answer_by s o e.named (applied s.stored e.contents)) h
 
-fresh_grows : (s : State) (named : List Area) (r : Result Stored StoreFault) → may_grow (found_by s None named r) ≡ true
+fresh_grows : (s : State) (named : List Area) (r : Result Stored StoreFault) → may_grow (answer_by s None named r) ≡ true
 fresh_grows s named (Ok stored) = refl
 fresh_grows s named (Err store.Full) = refl
 fresh_grows s named (Err store.EditLimit) = refl
 fresh_grows s named (Err store.Memory) = refl
 
-pub edit_grows : (s : State) (force : Bool) (e : Edit) → may_grow (edit_answer s force no_cause e) ≡ true
-edit_grows s force e = ap may_grow (edit_found s force e) ∙ by (stale_in s force e.named)
+pub edit_grows : (s : State) (force : Bool) (e : Edit) → may_grow (edit_answer s force e) ≡ true
+edit_grows s force e = by (stale_in s force e.named)
   where
-    by : (o : Option ℕ) → may_grow (found_by s o e.named (applied s.stored e.contents)) ≡ true
+    by : (o : Option ℕ) → may_grow (answer_by s o e.named (applied s.stored e.contents)) ≡ true
     by (Some at) = refl
     by None = fresh_grows s e.named (applied s.stored e.contents)
 
-fresh_limit : (s : State) (named : List Area) (r : Result Stored StoreFault) (e : Refusal) → limit_of r ≡ Some e → found_by s None named r ≡ Err e
+fresh_limit : (s : State) (named : List Area) (r : Result Stored StoreFault) (e : Refusal) → limit_of r ≡ Some e → answer_by s None named r ≡ Err e
 fresh_limit s named (Ok stored) e h = cc
 fresh_limit s named (Err f) e h = cc
 
-may_fail : (s : State) (force : Bool) (e : Edit) (refusal : Refusal) → stale_in s force e.named ≡ None → MayFail refusal (applied s.stored e.contents) → MayRefuse refusal (λ a. edit_answer s force no_cause e ≡ a)
+may_fail : (s : State) (force : Bool) (e : Edit) (refusal : Refusal) → stale_in s force e.named ≡ None → MayFail refusal (applied s.stored e.contents) → MayRefuse refusal (λ a. edit_answer s force e ≡ a)
 may_fail s force e Memory fresh h =
-    record { answer = edit_answer s force no_cause e; is_answer = refl; grows = edit_grows s force e }
+    record { answer = edit_answer s force e; is_answer = refl; grows = edit_grows s force e }
 may_fail s force e refusal fresh h = edit_fresh s force e fresh ∙ fresh_limit s e.named (applied s.stored e.contents) refusal h
 
 -- memory ran out on the way
-pub edit_lacks : (r : Result (Unit {0}) Refusal) (s : State) (force : Bool) (e : Edit) → IsErrAnd r (λ x. x ≡ Memory) → Serves (λ a. edit_answer s force no_cause e ≡ a) r s s []
+pub edit_lacks : (r : Result (Unit {0}) Refusal) (s : State) (force : Bool) (e : Edit) → IsErrAnd r (λ x. x ≡ Memory) → Serves (λ a. edit_answer s force e ≡ a) r s s []
 edit_lacks r s force e k =
     let p = err_from_is_err_and r k in
     let same : r ≡ Err Memory = p.1 ∙ ap (λ (x : Refusal). let y : Result (Unit {0}) Refusal = Err x in y) p.2 in
-    subst (λ (x : Result (Unit {0}) Refusal). Serves (λ a. edit_answer s force no_cause e ≡ a) x s s []) (sym same)
-    (record { answer = edit_answer s force no_cause e; is_answer = refl; grows = edit_grows s force e }, refl, refl)
+    subst (λ (x : Result (Unit {0}) Refusal). Serves (λ a. edit_answer s force e ≡ a) x s s []) (sym same)
+    (record { answer = edit_answer s force e; is_answer = refl; grows = edit_grows s force e }, refl, refl)
 
 made : (s : State) (stored : Stored) (named : List Area) (scenarios : List Scenario) (sessions : List Session) (current : ℕ) (log : List Entry) →
     scenarios ≡ s.scenarios → sessions ≡ s.sessions → current ≡ s.current → log ≡ s.log ++ record { session = s.current; cells = named } ∷ [] →
-    with_stored s named (Ok stored) ≡ record { stored = stored; scenarios = scenarios; sessions = sessions; current = current; log = log }
+    with_stored s named stored ≡ record { stored = stored; scenarios = scenarios; sessions = sessions; current = current; log = log }
 made s stored named scenarios sessions current log a b c d = cc
 
 kept : (s : State) (stored : Stored) (scenarios : List Scenario) (sessions : List Session) (current : ℕ) (log : List Entry) →
@@ -72,9 +66,9 @@ kept s stored scenarios sessions current log a b c d e = cc
 pub edit_served : (r : Result (Unit {0}) Refusal) (s t : State) (force : Bool) (e : Edit) → stale_in s force e.named ≡ None →
     t.scenarios ≡ s.scenarios → t.sessions ≡ s.sessions → t.current ≡ s.current →
     Commits (applied s.stored e.contents) (record { session = s.current; cells = e.named }) r s.stored t.stored s.log t.log →
-    Serves (λ a. edit_answer s force no_cause e ≡ a) r s t []
+    Serves (λ a. edit_answer s force e ≡ a) r s t []
 edit_served (Ok u) s t force e fresh a b c h =
-    edit_fresh s force e fresh ∙ ap (found_by s None e.named) h.0
+    edit_fresh s force e fresh ∙ ap (answer_by s None e.named) h.0
     ∙ ap (λ (x : State). let a : Answer = Ok (x, []) in a) (made s t.stored e.named t.scenarios t.sessions t.current t.log a b c h.1)
 edit_served (Err refusal) s t force e fresh a b c h =
     (may_fail s force e refusal fresh h.0, kept s t.stored t.scenarios t.sessions t.current t.log h.1 a b c h.2, refl)

@@ -1,37 +1,27 @@
 -- What `fill` answers, and the copies that it makes.
-use Rattle.wi_scenarios.proofs.Words.{◌≡◌, ℕ, ◌+◌, Bool, true, false, not, ◌||◌, if◌then◌else◌, List, [], ◌∷◌, ◌++◌, map, Option, Some, Result, Err, refl, sym, ap, ◌∙◌, subst, ◌≤◌, ◌<◌, append_assoc, nat_lt, is_some, keys_of, list_any, flat_map, range_with_len, map-append, map-range_with_len_more, list_any-append, any_in_range, Area, place, size_of, cells_of, cells_of_row, Content, content_of, IsErrAnd, err_from_is_err_and, Refusal, Memory, TooLarge, LeavesSheet, State, max_area, Answer, may_grow, MayRefuse, Serves, no_cause, Edit, edit_answer, fill_edit, fill_step, shift_refusal, copy_to, has_no_copy, or_nothing, ShiftFault, AreCopies, CopiesAs, HasNoCopies, cells_in}
+use Rattle.wi_scenarios.proofs.Words.{◌≡◌, ℕ, ◌+◌, Bool, true, false, not, ◌||◌, List, [], ◌∷◌, ◌++◌, map, Option, Some, Result, Err, refl, sym, ap, ◌∙◌, subst, ◌≤◌, ◌<◌, append_assoc, nat_lt, is_some, keys_of, list_any, flat_map, range_with_len, map-append, map-range_with_len_more, list_any-append, any_in_range, Area, place, size_of, cells_of, cells_of_row, Content, content_of, IsErrAnd, err_from_is_err_and, Refusal, Memory, TooLarge, State, max_area, may_grow, MayRefuse, Serves, Edit, edit_answer, shift_refusal, copy_to, has_no_copy, or_nothing, ShiftFault, AreCopies, CopiesAs, HasNoCopies, cells_in}
 use Rattle.wi_parser.specs.declared.shift.ShiftFault.TheVariants as shift
-use Rattle.wi_scenarios.proofs.EditLemmas.{edit_grows, same_edit}
+use Rattle.wi_scenarios.specs.Answer.{MayGrow}
+use Rattle.wi_scenarios.specs.Inner.Placed.{IsPlaced, IsSpanned}
+use Rattle.wi_scenarios.proofs.CommandWords.{Fill, cell, corners, IsStep}
+use Rattle.wi_scenarios.proofs.EditLemmas.{edit_grows, same_edit, edit_serves}
+use Rattle.wi_scenarios.proofs.FillSteps.{fill_edit, leaves, filled_by, fill_of}
 
--- the answer that is found, where the rectangle is too large or not, and a copy leaves the sheet or not
-abbrev pub filled_by : State → Bool → Bool → Bool → Edit → Answer
-filled_by s force large outside e = if large then Err TooLarge else (if outside then Err LeavesSheet else edit_answer s force no_cause e)
+module _ (s : State) (force : Bool) (from : ℕ) (area : Area) (placed : IsPlaced from) (spanned : IsSpanned area) where
+  pub fill_too_large : nat_lt max_area (size_of area) ≡ true → Serves (IsStep s (Fill force (cell from) (corners area))) (Err TooLarge) s s []
+  fill_too_large l = (fill_of s force from area placed spanned true (leaves s from area) l refl, refl, refl)
 
-by_causes : (s : State) (force large outside : Bool) (e : Edit) → edit_answer s force (record no_cause { too_large = large; leaves_sheet = outside }) e ≡ filled_by s force large outside e
-by_causes s force true outside e = refl
-by_causes s force false true e = refl
-by_causes s force false false e = refl
+  -- of a rectangle that isn't too large something may grow before the answer
+  filled_grows : (outside : Bool) (e : Edit) → may_grow (filled_by s force false outside e) ≡ true
+  filled_grows true e = refl
+  filled_grows false e = edit_grows s force e
 
--- a rectangle that is too large, or not
-step_is : (s : State) (force : Bool) (from : ℕ) (area : Area) (large outside : Bool) → nat_lt max_area (size_of area) ≡ large → list_any (has_no_copy (content_of s.stored.sheet from) from) (cells_of area) ≡ outside →
-    fill_step s force from area ≡ filled_by s force large outside (fill_edit s.stored.sheet from area)
-step_is s force from area large outside l o =
-    by_causes s force (nat_lt max_area (size_of area)) (list_any (has_no_copy (content_of s.stored.sheet from) from) (cells_of area)) (fill_edit s.stored.sheet from area)
-    ∙ ap (λ (b : Bool). filled_by s force b (list_any (has_no_copy (content_of s.stored.sheet from) from) (cells_of area)) (fill_edit s.stored.sheet from area)) l
-    ∙ ap (λ (b : Bool). filled_by s force large b (fill_edit s.stored.sheet from area)) o
-
-pub fill_too_large : (s : State) (force : Bool) (from : ℕ) (area : Area) → nat_lt max_area (size_of area) ≡ true → Serves (λ a. fill_step s force from area ≡ a) (Err TooLarge) s s []
-fill_too_large s force from area l = (step_is s force from area true _ l refl, refl, refl)
-
--- of a rectangle that isn't too large something may grow before the answer
-filled_grows : (s : State) (force outside : Bool) (e : Edit) → may_grow (filled_by s force false outside e) ≡ true
-filled_grows s force true e = refl
-filled_grows s force false e = edit_grows s force e
-
-fill_grows : (s : State) (force : Bool) (from : ℕ) (area : Area) → nat_lt max_area (size_of area) ≡ false → may_grow (fill_step s force from area) ≡ true
-fill_grows s force from area l =
-    let outside = list_any (has_no_copy (content_of s.stored.sheet from) from) (cells_of area) in
-    ap may_grow (step_is s force from area false outside l refl) ∙ filled_grows s force outside (fill_edit s.stored.sheet from area)
+  pub may_grow_first : nat_lt max_area (size_of area) ≡ false → MayGrow (IsStep s (Fill force (cell from) (corners area)))
+  may_grow_first small = record {
+    answer = filled_by s force false (leaves s from area) (fill_edit s.stored.sheet from area);
+    is_answer = fill_of s force from area placed spanned false (leaves s from area) small refl;
+    grows = filled_grows (leaves s from area) (fill_edit s.stored.sheet from area);
+  }
 
 -- ---- copies, one after another
 
@@ -79,35 +69,32 @@ no_copy_in_rows content from area first n row shift.Memory l m h = tt
 
 -- ---- a fill that is refused
 
-pub fill_leaves : (r : Result (Unit {0}) Refusal) (s : State) (force : Bool) (content : Option Content) (from : ℕ) (area : Area) (fault : ShiftFault) → content ≡ content_of s.stored.sheet from
-    → nat_lt max_area (size_of area) ≡ false → IsErrAnd r (λ e. e ≡ shift_refusal fault) → HasNoCopies content from (cells_of area) fault → Serves (λ a. fill_step s force from area ≡ a) r s s []
-fill_leaves r s force content from area fault at small k none =
+pub fill_leaves : (r : Result (Unit {0}) Refusal) (s : State) (force : Bool) (content : Option Content) (from : ℕ) (area : Area) (fault : ShiftFault) → IsPlaced from → IsSpanned area → content ≡ content_of s.stored.sheet from
+    → nat_lt max_area (size_of area) ≡ false → IsErrAnd r (λ e. e ≡ shift_refusal fault) → HasNoCopies content from (cells_of area) fault → Serves (IsStep s (Fill force (cell from) (corners area))) r s s []
+fill_leaves r s force content from area fault placed spanned at small k none =
     let p = err_from_is_err_and r k in
-    subst (λ x. Serves (λ a. fill_step s force from area ≡ a) x s s []) (sym p.1) (by p.0 fault p.2 none, refl, refl)
+    subst (λ x. Serves (IsStep s (Fill force (cell from) (corners area))) x s s []) (sym p.1) (by p.0 fault p.2 none, refl, refl)
   where
-    by : (e : Refusal) (f : ShiftFault) → e ≡ shift_refusal f → HasNoCopies content from (cells_of area) f → MayRefuse e (λ a. fill_step s force from area ≡ a)
+    by : (e : Refusal) (f : ShiftFault) → e ≡ shift_refusal f → HasNoCopies content from (cells_of area) f → MayRefuse e (IsStep s (Fill force (cell from) (corners area)))
     by e shift.LeavesSheet same outside =
-        let leaves_it : list_any (has_no_copy (content_of s.stored.sheet from) from) (cells_of area) ≡ true =
-        subst (λ c. list_any (has_no_copy c from) (cells_of area) ≡ true) at outside in
-        subst (λ (x : Refusal). MayRefuse x (λ a. fill_step s force from area ≡ a)) (sym same) (step_is s force from area false true small leaves_it)
+        let leaves_it : leaves s from area ≡ true = subst (λ c. list_any (has_no_copy c from) (cells_of area) ≡ true) at outside in
+        subst (λ (x : Refusal). MayRefuse x (IsStep s (Fill force (cell from) (corners area)))) (sym same) (fill_of s force from area placed spanned false true small leaves_it)
     by e shift.Memory same u =
-        subst (λ (x : Refusal). MayRefuse x (λ a. fill_step s force from area ≡ a)) (sym same)
-        (record { answer = fill_step s force from area; is_answer = refl; grows = fill_grows s force from area small })
+        subst (λ (x : Refusal). MayRefuse x (IsStep s (Fill force (cell from) (corners area)))) (sym same) (may_grow_first s force from area placed spanned small)
 
 -- ---- a fill with copies
 
-module _ (s t : State) (force : Bool) (content : Option Content) (from : ℕ) (area : Area) (named : List Area) (contents : List (ℕ × Option Content))
+module _ (s t : State) (force : Bool) (content : Option Content) (from : ℕ) (area : Area) (named : List Area) (contents : List (ℕ × Option Content)) (placed : IsPlaced from) (spanned : IsSpanned area)
     (at : content ≡ content_of s.stored.sheet from) (copies : AreCopies content from (cells_of area) contents) where
   copies_are : contents ≡ (fill_edit s.stored.sheet from area).contents
   copies_are = subst (λ c. contents ≡ map (λ to. (to, or_nothing (copy_to c from to))) (cells_of area)) at copies.each
 
   pub fill_edited : (r : Result (Unit {0}) Refusal) → nat_lt max_area (size_of area) ≡ false → named ≡ area ∷ []
-      → Serves (λ a. edit_answer s force no_cause (record { named = named; contents = contents }) ≡ a) r s t [] → Serves (λ a. fill_step s force from area ≡ a) r s t []
-  fill_edited r small n h =
-      let all : list_any (has_no_copy (content_of s.stored.sheet from) from) (cells_of area) ≡ false = subst (λ c. list_any (has_no_copy c from) (cells_of area) ≡ false) at copies.all in
-      let same : ◌≡◌ {A = Edit} (record { named = named; contents = contents }) (fill_edit s.stored.sheet from area) =
-      same_edit named (area ∷ []) contents (fill_edit s.stored.sheet from area).contents n copies_are in
-      subst (λ (x : Answer). Serves (λ a. x ≡ a) r s t []) (ap (edit_answer s force no_cause) same ∙ sym (step_is s force from area false false small all)) h
+      → Serves (λ a. edit_answer s force (record { named = named; contents = contents }) ≡ a) r s t [] → Serves (IsStep s (Fill force (cell from) (corners area))) r s t []
+  fill_edited r small n =
+      let all : leaves s from area ≡ false = subst (λ c. list_any (has_no_copy c from) (cells_of area) ≡ false) at copies.all in
+      edit_serves s (Fill force (cell from) (corners area)) force (record { named = named; contents = contents }) (fill_edit s.stored.sheet from area)
+      (same_edit named (area ∷ []) contents (fill_edit s.stored.sheet from area).contents n copies_are) (fill_of s force from area placed spanned false false small all) r t
 
 keys_of_copies : (f : ℕ → Option Content) (cells : List ℕ) → keys_of (map (λ to. (to, f to)) cells) ≡ cells
 keys_of_copies f [] = refl

@@ -1,5 +1,5 @@
 -- The first cause that holds is one, and so a step has one answer.
-use Rattle.wi_scenarios.proofs.Words.{◌≡◌, ◌↔◌, ◌∙◌, List, [], ◌∷◌, inl, inr, Some, Ok, Err, sym, ap, subst, Refusal, State, Answer}
+use Rattle.wi_scenarios.proofs.Words.{◌≡◌, ◌∙◌, List, [], ◌∷◌, inl, inr, Some, Ok, Err, sym, ap, subst, Refusal, State, Answer}
 use Rattle.std.specs.Prelude.{ℕ}
 use Rattle.wi_scenarios.specs.declared.refusal.Refusal.TheVariants as refusal
 use Rattle.wi_scenarios.proofs.CommandWords.{Command, Cause, Stale, Holds, Does, IsFirstOf, IsStep, Tells, causes}
@@ -34,7 +34,3 @@ module _ (s : State) (c : Command) where
   one_answer one (Err d) (Err e) h k =
       let same : k.0 ≡ h.0 = one_first causes k.0 h.0 k.1 h.1 in
       ap (λ (r : Refusal). let a : Answer = Err r in a) (one_told h.0 d e h.2 (subst (λ (x : Cause). Tells s c x e) same k.2))
-
-  -- where an answer is found, the step's answers are that one
-  pub answers : DoesOne → (found : Answer) → IsStep s c found → (a : Answer) → (found ≡ a) ↔ IsStep s c a
-  answers one found is a = (λ e. subst (IsStep s c) e is, one_answer one found a is)

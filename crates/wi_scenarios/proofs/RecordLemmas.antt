@@ -1,6 +1,7 @@
 -- The records of a change list tell it.
-use Rattle.wi_scenarios.proofs.Words.{◌≡◌, ◌≢◌, ◌∙◌, ℕ, zero, suc, ◌+◌, ◌<◌, ◌≤◌, Bool, true, false, not, cond, List, [], ◌∷◌, map, get_or, Result, Ok, refl, sym, ap, arith, bytes_eq, both_ways, same_Some, bytes_eq-Decides, AllByRecursion, range_with_len, All-map, flat_map-map, address_text, read_address, imported, error_name, logical_name, shown_text, AddressFault, ErrorKind, NotAvailable, DivisionByZero, UnknownName, BadNumber, BadReference, BadValue, Circular, Value, Empty, Number, Text, Logical, Fault, numbers_read_back, addresses_read_back, recs, row, read_again, sheet_size, value_in, same_value, kind_text, change_records, State, current_session, shown_to, change_list, Changes, IsCallStep, change_fields, RecordsTellList}
+use Rattle.wi_scenarios.proofs.Words.{◌≡◌, ◌≢◌, ◌∙◌, ℕ, zero, suc, ◌+◌, ◌<◌, ◌≤◌, Bool, true, false, not, cond, List, [], ◌∷◌, map, get_or, Result, Ok, refl, sym, ap, arith, bytes_eq, both_ways, same_Some, bytes_eq-Decides, AllByRecursion, range_with_len, All-map, flat_map-map, address_text, read_address, imported, error_name, logical_name, shown_text, AddressFault, ErrorKind, NotAvailable, DivisionByZero, UnknownName, BadNumber, BadReference, BadValue, Circular, Value, Empty, Number, Text, Logical, Fault, numbers_read_back, addresses_read_back, recs, row, read_again, sheet_size, value_in, same_value, kind_text, change_records, State, current_session, shown_to, change_list, change_fields, RecordsTellList}
 use Rattle.std.proofs.Common.{filter}
+use Rattle.wi_scenarios.proofs.CommandWords.{Changes, IsStep}
 
 -- ---- one change
 
@@ -94,7 +95,7 @@ records_read es =
     some : (e : ℕ × Value) → change_fields e ≢ []
     some e h = cc
 
-pub records_tell_list : (s t : State) (records : List ℕ) → IsCallStep s Changes (Ok (t, records)) → RecordsTellList IsCallStep Changes s records
+pub records_tell_list : (s t : State) (records : List ℕ) → IsStep s Changes (Ok (t, records)) → RecordsTellList IsStep Changes s records
 records_tell_list s t records h =
     let same : change_records (change_list s) ≡ records = sym (ap (λ (d : State × List ℕ). d.1) h.1) in
     record {

@@ -1,29 +1,29 @@
--- What calls do to the sessions and to the log.
-use Rattle.wi_scenarios.proofs.Words.{◌≡◌, ◌≢◌, ◌∙◌, ℕ, zero, suc, ◌+◌, ◌<◌, ◌≤◌, ◌==◌, ◌⊎◌, inl, inr, Bool, true, false, not, ◌&&◌, ◌||◌, cond, List, [], ◌∷◌, ◌++◌, length, get_or, Ok, Err, refl, sym, ap, subst, arith, list_any, position_or_len, bytes_eq, eqb-true, eqb-false, ne_eqb, false≢true, length-set, length-append, get_or-set_same, get_or-set_other, Stored, with_changes, Session, new_session, has_session, with_session, index_of, using_scenario, told, State, state_over, current_session, with_current, Answer, change_list, Call, Set, Clear, Fill, Csv, Drop, Base, Use, As, Changes, IsCallStep, Event, MayHappen, left_by, MayFollow, IsCoherent, StaysCoherent, KeepsApart, is_changes_call, is_accepted_changes, with_lists, ListsAddUp, named_by_call, logged, LogGrows}
+-- What commands do to the sessions and to the log.
+use Rattle.wi_scenarios.proofs.Words.{◌≡◌, ◌≢◌, ◌∙◌, ℕ, zero, suc, ◌+◌, ◌<◌, ◌≤◌, ◌==◌, ◌⊎◌, inl, inr, Bool, true, false, not, ◌&&◌, ◌||◌, cond, List, [], ◌∷◌, ◌++◌, length, get_or, Ok, Err, refl, sym, ap, subst, arith, list_any, position_or_len, bytes_eq, eqb-true, eqb-false, ne_eqb, false≢true, length-set, length-append, get_or-set_same, get_or-set_other, Stored, with_changes, Session, new_session, has_session, with_session, index_of, using_scenario, told, State, state_over, current_session, with_current, Answer, change_list, Event, MayHappen, left_by, MayFollow, IsCoherent, StaysCoherent, KeepsApart, is_changes, is_accepted_changes, with_lists, ListsAddUp, named_by, logged, LogGrows}
 use Rattle.std.proofs.Common.{append-nil}
 use Rattle.wi_scenarios.specs.Views.{session_at}
-use Rattle.wi_scenarios.specs.Step.{Scenario}
+use Rattle.wi_scenarios.proofs.CommandWords.{Command, Set, Clear, Fill, Csv, Scenario, Drop, Base, Use, As, Changes, IsStep}
 use Rattle.wi_scenarios.proofs.OutcomeLemmas.{Outcome, what_happens}
 use Rattle.wi_scenarios.proofs.EventLemmas as events
 use Rattle.wi_scenarios.proofs.EventLemmas.{TellsAndLogs}
 
--- ---- the log after a call
+-- ---- the log after a command
 
-pub log_then : (s : State) (c : Call) (a : Answer) → Outcome s c a → (left_by s a).log ≡ s.log ++ logged s.current a (named_by_call c)
+pub log_then : (s : State) (c : Command) (a : Answer) → Outcome s c a → (left_by s a).log ≡ s.log ++ logged s.current a (named_by c)
 log_then s c (Err e) h = sym (append-nil s.log)
 log_then s (Set force at text) (Ok done) h = h.log
-log_then s (Clear force area) (Ok done) h = h.log
-log_then s (Fill force from area) (Ok done) h = h.log
-log_then s (Csv force at text) (Ok done) h = h.log
+log_then s (Clear force rect) (Ok done) h = h.log
+log_then s (Fill force at rect) (Ok done) h = h.log
+log_then s (Csv force at n lines) (Ok done) h = h.log
 log_then s (Scenario name at text) (Ok done) h = h.log ∙ sym (append-nil s.log)
 log_then s (Drop name) (Ok done) h = h.log ∙ sym (append-nil s.log)
 log_then s (Base name other) (Ok done) h = h.log ∙ sym (append-nil s.log)
 log_then s c (Ok done) h = ap (λ (t : State). t.log) h ∙ sym (append-nil s.log)
 
--- ---- the sessions after a call
+-- ---- the sessions after a command
 
--- what a session was before, or what a call makes of the current one
-abbrev pub session_then : ℕ → State → Call → Answer → Session
+-- what a session was before, or what a command makes of the current one
+abbrev pub session_then : ℕ → State → Command → Answer → Session
 session_then i s c (Err e) = session_at s i
 session_then i s (Use name) (Ok done) = cond (s.current == i) (using_scenario (current_session s) name) (session_at s i)
 session_then i s Changes (Ok done) = cond (s.current == i) (told (current_session s) (change_list s) (length s.log)) (session_at s i)
@@ -57,13 +57,13 @@ module _ {X : Type 0} (f : Session → X) where
       by true = refl
       by false = put_behind s.sessions name i k
 
-  pub part_then : (s : State) (c : Call) (a : Answer) (i : ℕ) → s.current < length s.sessions → IsKept s i → Outcome s c a
+  pub part_then : (s : State) (c : Command) (a : Answer) (i : ℕ) → s.current < length s.sessions → IsKept s i → Outcome s c a
       → f (session_at (left_by s a) i) ≡ f (session_then i s c a)
   part_then s c (Err e) i w k h = refl
   part_then s (Set force at text) (Ok done) i w k h = ap (λ (xs : List Session). f (get_or xs i (new_session []))) h.sessions
-  part_then s (Clear force area) (Ok done) i w k h = ap (λ (xs : List Session). f (get_or xs i (new_session []))) h.sessions
-  part_then s (Fill force from area) (Ok done) i w k h = ap (λ (xs : List Session). f (get_or xs i (new_session []))) h.sessions
-  part_then s (Csv force at text) (Ok done) i w k h = ap (λ (xs : List Session). f (get_or xs i (new_session []))) h.sessions
+  part_then s (Clear force rect) (Ok done) i w k h = ap (λ (xs : List Session). f (get_or xs i (new_session []))) h.sessions
+  part_then s (Fill force at rect) (Ok done) i w k h = ap (λ (xs : List Session). f (get_or xs i (new_session []))) h.sessions
+  part_then s (Csv force at n lines) (Ok done) i w k h = ap (λ (xs : List Session). f (get_or xs i (new_session []))) h.sessions
   part_then s (Scenario name at text) (Ok done) i w k h = ap (λ (xs : List Session). f (get_or xs i (new_session []))) h.sessions
   part_then s (Drop name) (Ok done) i w k h = ap (λ (xs : List Session). f (get_or xs i (new_session []))) h.sessions
   part_then s (Base name other) (Ok done) i w k h = ap (λ (xs : List Session). f (get_or xs i (new_session []))) h.sessions
@@ -76,7 +76,7 @@ module _ {X : Type 0} (f : Session → X) where
 
 -- ---- a session that isn't current
 
-other_then : (s : State) (c : Call) (a : Answer) (i : ℕ) → i ≢ s.current → session_then i s c a ≡ session_at s i
+other_then : (s : State) (c : Command) (a : Answer) (i : ℕ) → i ≢ s.current → session_then i s c a ≡ session_at s i
 other_then s c (Err e) i n = refl
 other_then s (Use name) (Ok done) i n =
     ap (λ (b : Bool). cond b (using_scenario (current_session s) name) (session_at s i)) (ne_eqb s.current i (λ e. n (sym e)))
@@ -84,7 +84,7 @@ other_then s Changes (Ok done) i n =
     ap (λ (b : Bool). cond b (told (current_session s) (change_list s) (length s.log)) (session_at s i)) (ne_eqb s.current i (λ e. n (sym e)))
 other_then s c (Ok done) i n = refl
 
-pub keeps_apart : (s : State) (e : Event Call) (i : ℕ) → IsCoherent s → MayHappen IsCallStep s e → KeepsApart s e i
+pub keeps_apart : (s : State) (e : Event Command) (i : ℕ) → IsCoherent s → MayHappen IsStep s e → KeepsApart s e i
 keeps_apart s e i settled h l n =
     part_then (λ (x : Session). x) s e.command e.answer i settled.within (inl l) (what_happens s e h) ∙ other_then s e.command e.answer i n
 
@@ -126,12 +126,12 @@ put_within s x w = let l = length-set s.sessions s.current x in omega (arith, l,
 abbrev IsWithin : State → Type 0
 IsWithin s = s.current < length s.sessions
 
-within_then : (s : State) (c : Call) (a : Answer) → IsWithin s → Outcome s c a → IsWithin (left_by s a)
+within_then : (s : State) (c : Command) (a : Answer) → IsWithin s → Outcome s c a → IsWithin (left_by s a)
 within_then s c (Err e) w h = w
 within_then s (Set force at text) (Ok done) w h = same_within s done.0 h.sessions h.current w
-within_then s (Clear force area) (Ok done) w h = same_within s done.0 h.sessions h.current w
-within_then s (Fill force from area) (Ok done) w h = same_within s done.0 h.sessions h.current w
-within_then s (Csv force at text) (Ok done) w h = same_within s done.0 h.sessions h.current w
+within_then s (Clear force rect) (Ok done) w h = same_within s done.0 h.sessions h.current w
+within_then s (Fill force at rect) (Ok done) w h = same_within s done.0 h.sessions h.current w
+within_then s (Csv force at n lines) (Ok done) w h = same_within s done.0 h.sessions h.current w
 within_then s (Scenario name at text) (Ok done) w h = same_within s done.0 h.sessions h.current w
 within_then s (Drop name) (Ok done) w h = same_within s done.0 h.sessions h.current w
 within_then s (Base name other) (Ok done) w h = same_within s done.0 h.sessions h.current w
@@ -143,7 +143,7 @@ within_then s c (Ok done) w h = subst IsWithin (sym h) w
 -- ---- what `changes` alone does
 
 -- how much of the log a session has seen
-seen_then : (i : ℕ) (s : State) (c : Call) (a : Answer) → (session_then i s c a).seen ≡ cond (is_accepted_changes is_changes_call a c && (s.current == i)) (length s.log) (session_at s i).seen
+seen_then : (i : ℕ) (s : State) (c : Command) (a : Answer) → (session_then i s c a).seen ≡ cond (is_accepted_changes is_changes a c && (s.current == i)) (length s.log) (session_at s i).seen
 seen_then i s c (Err e) = refl
 seen_then i s (Use name) (Ok done) = by (s.current == i) refl
   where
@@ -158,8 +158,8 @@ seen_then i s Changes (Ok done) = by (s.current == i)
 seen_then i s c (Ok done) = refl
 
 -- its picture
-picture_then : (i : ℕ) (s : State) (c : Call) (a : Answer)
-    → (session_then i s c a).picture ≡ with_lists (session_at s i).picture (cond (is_accepted_changes is_changes_call a c && (s.current == i)) (change_list s ∷ []) [])
+picture_then : (i : ℕ) (s : State) (c : Command) (a : Answer)
+    → (session_then i s c a).picture ≡ with_lists (session_at s i).picture (cond (is_accepted_changes is_changes a c && (s.current == i)) (change_list s ∷ []) [])
 picture_then i s c (Err e) = refl
 picture_then i s (Use name) (Ok done) = by (s.current == i) refl
   where
@@ -175,12 +175,12 @@ picture_then i s Changes (Ok done) = by (s.current == i) refl
 picture_then i s c (Ok done) = refl
 
 -- `changes` adds nothing to the log
-told_adds_nothing : (n : ℕ) (a : Answer) (c : Call) → is_accepted_changes is_changes_call a c ≡ true → logged n a (named_by_call c) ≡ []
+told_adds_nothing : (n : ℕ) (a : Answer) (c : Command) → is_accepted_changes is_changes a c ≡ true → logged n a (named_by c) ≡ []
 told_adds_nothing n (Err e) c h = refl
 told_adds_nothing n (Ok done) Changes h = refl
 told_adds_nothing n (Ok done) c h = absurd (false≢true h)
 
--- ---- calls one after another
+-- ---- commands one after another
 
 pub new_is_coherent : (stored : Stored) → IsCoherent (state_over stored)
 new_is_coherent stored = record { within = omega arith; seen = by }
@@ -189,7 +189,7 @@ new_is_coherent stored = record { within = omega arith; seen = by }
     by zero = omega arith
     by (suc i) = omega arith
 
-pub tells_and_logs : (s : State) (e : Event Call) → IsCoherent s → MayHappen IsCallStep s e → TellsAndLogs is_changes_call named_by_call s e
+pub tells_and_logs : (s : State) (e : Event Command) → IsCoherent s → MayHappen IsStep s e → TellsAndLogs is_changes named_by s e
 tells_and_logs s e settled h =
     let o = what_happens s e h in
     record {
@@ -200,11 +200,11 @@ tells_and_logs s e settled h =
       told_alone = told_adds_nothing s.current e.answer e.command;
     }
 
-pub stays_coherent : (s : State) (es : List (Event Call)) → StaysCoherent IsCallStep s es
-stays_coherent s es = events.stays_coherent IsCallStep is_changes_call named_by_call tells_and_logs s es
+pub stays_coherent : (s : State) (es : List (Event Command)) → StaysCoherent IsStep s es
+stays_coherent s es = events.stays_coherent IsStep is_changes named_by tells_and_logs s es
 
-pub lists_add_up : (s : State) (es : List (Event Call)) (i : ℕ) → IsCoherent s → MayFollow IsCallStep s es → ListsAddUp is_changes_call s es i
-lists_add_up = events.lists_add_up IsCallStep is_changes_call named_by_call tells_and_logs
+pub lists_add_up : (s : State) (es : List (Event Command)) (i : ℕ) → IsCoherent s → MayFollow IsStep s es → ListsAddUp is_changes s es i
+lists_add_up = events.lists_add_up IsStep is_changes named_by tells_and_logs
 
-pub log_grows : (s : State) (es : List (Event Call)) (i : ℕ) → IsCoherent s → MayFollow IsCallStep s es → LogGrows is_changes_call named_by_call s es i
-log_grows = events.log_grows IsCallStep is_changes_call named_by_call tells_and_logs
+pub log_grows : (s : State) (es : List (Event Command)) (i : ℕ) → IsCoherent s → MayFollow IsStep s es → LogGrows is_changes named_by s es i
+log_grows = events.log_grows IsStep is_changes named_by tells_and_logs

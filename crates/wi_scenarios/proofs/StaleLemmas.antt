@@ -1,11 +1,11 @@
 -- When an edit is refused for a stale cell.
-use Rattle.wi_scenarios.proofs.Words.{IfSome, nat_lt, ◌≡◌, ◌∙◌, ℕ, zero, suc, ◌+◌, ◌<◌, ◌≤◌, ◌==◌, ◌⊎◌, inl, inr, Bool, true, false, ◌&&◌, List, [], ◌∷◌, length, map, max, Option, Some, None, Result, Ok, Err, refl, sym, ap, subst, arith, list_any, and_parts, and_from, both_ways, cases_eq, cases_lt, or_cases, false≢true, none-some, same_Some, Area, is_within, size_of, cells_of, within_between, Content, ParseFault, content_of, record_areas_at, Stored, applied, StoreFault, Entry, is_within_one, first_stale, IsFirst, entries_in, is_wanted_of_others, only_first, stale_is_first, Refusal, Memory, BadCommand, TooLarge, BadField, LeavesSheet, Stale, State, max_area, Answer, when, unless, limit_of, edit_refusal, stale_in, with_stored, cell_area, fault_in, content_in, clear_edit, fill_edit, has_no_copy, ImportOutcome, has_bad_field, field_fault, contents_in, Call, Set, Clear, Fill, Csv, IsCallStep, Event, MayHappen, MayFollow, state_after, IsCoherent, is_changes_call, named_by_call, is_forced_call, edits_since, unseen, is_newer, IsFirstNewer, counts_before, is_refused_before, StaleIsNewer, ForcedIsNotStale}
+use Rattle.wi_scenarios.proofs.Words.{◌≡◌, ◌≢◌, ◌∙◌, ℕ, zero, suc, ◌+◌, ◌<◌, ◌≤◌, ◌⊎◌, inl, inr, Bool, true, false, ◌&&◌, List, [], ◌∷◌, ◌++◌, map, max, Option, Some, None, Ok, Err, refl, sym, ap, subst, arith, and_parts, and_from, both_ways, cases_eq, cases_lt, or_cases, false≢true, none-some, Area, is_within, within_between, Entry, is_within_one, first_stale, IsFirst, entries_in, is_wanted_of_others, only_first, stale_is_first, Refusal, State, Answer, Event, MayHappen, MayFollow, state_after, IsCoherent, is_changes, named_by, edits_since, unseen, is_newer, IsFirstNewer, counts_before, is_refused_before, StaleIsNewer, ForcedIsNotStale}
 use Rattle.std.specs.Prelude.{◌↔◌}
-use Rattle.wi_parser.specs.declared.fault.ParseFault.TheVariants as parse
-use Rattle.wi_import.specs.declared.fault.ImportFault.TheVariants as import
-use Rattle.wi_store.specs.declared.fault.StoreFault.TheVariants as store
+use Rattle.std.specs.List.{list_all}
 use Rattle.wi_edit_log.specs.declared.edit.Edit.{Edit}
-use Rattle.wi_scenarios.proofs.OutcomeLemmas.{edit_cause}
+use Rattle.wi_scenarios.specs.declared.refusal.Refusal.TheVariants as refusal
+use Rattle.wi_scenarios.proofs.CommandWords.{Command, named, is_forced, Cause, BadLine, BadCommand, CutShort, Outside, TooLarge, NoScenario, InUse, TooMany, BadField, TooLong, OutOfSheet, NumberRange, TooDeep, Syntax, LeavesSheet, Stale, Loop, Full, EditLimit, Holds, stale_cell, Tells, IsStep, causes, IsFirstOf}
+use Rattle.wi_scenarios.proofs.FirstCause.{first_holds}
 use Rattle.wi_scenarios.proofs.EventLemmas.{TellsAndLogs, log_grows}
 use Rattle.wi_scenarios.proofs.RunLemmas.{tells_and_logs}
 
@@ -112,136 +112,87 @@ module _ {C : Type 0} (IsStep : State → C → Answer → Type 0) (is_changes :
 
 -- ---- the order of causes
 
--- the cause counts before a stale cell, if it holds
-abbrev CountsBefore : Option Refusal → Type 0
-CountsBefore o = IfSome o (λ e. counts_before e ≡ true)
-
-when_before : (b : Bool) (e : Refusal) → counts_before e ≡ true → CountsBefore (when b e)
-when_before true e h = h
-when_before false e h = tt
-
-fault_before : (r : Result Content ParseFault) → CountsBefore (fault_in r)
-fault_before (Ok content) = tt
-fault_before (Err parse.TooLong) = refl
-fault_before (Err parse.OutOfSheet) = refl
-fault_before (Err parse.NumberRange) = refl
-fault_before (Err parse.TooDeep) = refl
-fault_before (Err parse.Syntax) = refl
-fault_before (Err parse.Memory) = refl
-
-field_before : (r : ImportOutcome) → CountsBefore (field_fault r)
-field_before (Ok contents) = tt
-field_before (Err import.BadField) = tt
-field_before (Err import.TooLong) = refl
-field_before (Err import.OutOfSheet) = refl
-field_before (Err import.Memory) = tt
-
-limit_is_other : (e : StoreFault) (a : ℕ) → edit_refusal e ≡ Stale a → ⊥
-limit_is_other store.Full a h = cc
-limit_is_other store.EditLimit a h = cc
-limit_is_other store.Memory a h = cc
-
-not_before : (e : Refusal) (a : Answer) → counts_before e ≡ true → Err e ≡ a → is_refused_before a ≡ false → ⊥
-not_before e a h k f = both_ways (counts_before e) (ap is_refused_before k ∙ f) h
-
-one_stale : (c a : ℕ) → ◌≡◌ {A = Answer} (Err (Stale c)) (Err (Stale a)) → c ≡ a
-one_stale c a h = cc
-
-pub refused_so : (e f : Refusal) → ◌≡◌ {A = Answer} (Err e) (Err f) → e ≡ f
+refused_so : (e f : Refusal) → ◌≡◌ {A = Answer} (Err e) (Err f) → e ≡ f
 refused_so e f h = cc
 
-accepted : (done : State × List ℕ) (e : Refusal) → ◌≡◌ {A = Answer} (Ok done) (Err e) → ⊥
-accepted done e h = cc
+one_cell : (a b : ℕ) → ◌≡◌ {A = Refusal} (refusal.Stale a) (refusal.Stale b) → a ≡ b
+one_cell a b h = cc
 
-stale_answer : (o p : Option Refusal) (stale : Option ℕ) (r : Result Stored StoreFault) (done : State × List ℕ) (a : Answer) (c : ℕ) → CountsBefore o → CountsBefore p
-    → unless (edit_cause o p stale (limit_of r)) done ≡ a → is_refused_before a ≡ false → (a ≡ Err (Stale c)) ↔ (stale ≡ Some c)
-stale_answer (Some e) p stale r done a c k l h f = absurd (not_before e a k h f)
-stale_answer None (Some e) stale r done a c k l h f = absurd (not_before e a l h f)
-stale_answer None None (Some d) r done a c k l h f =
-    (λ e. ap Some (one_stale d c (h ∙ e)), λ e. sym h ∙ ap (λ (x : ℕ). Err (Stale x)) (same_Some d c e))
-stale_answer None None None (Err d) done a c k l h f =
-    (λ e. absurd (limit_is_other d c (refused_so (edit_refusal d) (Stale c) (h ∙ e))), λ e. absurd (none-some c e))
-stale_answer None None None (Ok stored) done a c k l h f =
-    (λ e. absurd (accepted done (Stale c) (h ∙ e)), λ e. absurd (none-some c e))
+module _ (s : State) (c : Command) where
+  -- no other cause is told so
+  stale_only : (x : Cause) (a : ℕ) → Tells s c x (refusal.Stale a) → x ≡ Stale
+  stale_only Stale a t = refl
+  stale_only x a t = cc
 
--- ---- an edit
+  -- the cause stands before that of a stale cell
+  abbrev is_before : Cause → Bool
+  is_before Stale = false
+  is_before Loop = false
+  is_before Full = false
+  is_before EditLimit = false
+  is_before x = true
 
-set_stale : (s : State) (force : Bool) (at : ℕ) (text : List ℕ) (a : Answer) (c : ℕ) → IsCallStep s (Set force at text) a → is_refused_before a ≡ false
-    → (a ≡ Err (Stale c)) ↔ (stale_in s force (cell_area at ∷ []) ≡ Some c)
-set_stale s force at text a c h f =
-    let r = applied s.stored ((at, content_in h.read) ∷ []) in
-    stale_answer (when (length text == 0) BadCommand) (fault_in h.read) (stale_in s force (cell_area at ∷ [])) r (with_stored s (cell_area at ∷ []) r, []) a c
-    (when_before (length text == 0) BadCommand refl) (fault_before h.read) h.answered f
+  counts : (x : Cause) → is_before x ≡ true → (e : Refusal) → Tells s c x e → counts_before e ≡ true
+  counts Stale b e t = absurd (false≢true b)
+  counts Loop b e t = absurd (false≢true b)
+  counts Full b e t = absurd (false≢true b)
+  counts EditLimit b e t = absurd (false≢true b)
+  counts x b e t = ap counts_before t
 
-clear_stale : (s : State) (force : Bool) (area : Area) (a : Answer) (c : ℕ) → IsCallStep s (Clear force area) a → is_refused_before a ≡ false
-    → (a ≡ Err (Stale c)) ↔ (stale_in s force (area ∷ []) ≡ Some c)
-clear_stale s force area a c h f =
-    let r = applied s.stored (clear_edit s.stored.sheet area).contents in
-    stale_answer None None (stale_in s force (area ∷ [])) r (with_stored s (area ∷ []) r, []) a c tt tt h f
+  -- where the cause y holds, the first that holds is in front of it, or is y
+  at_most : (front : List Cause) (y : Cause) (rest : List Cause) → list_all is_before front ≡ true → Holds s y c → (x : Cause) → IsFirstOf s c (front ++ y ∷ rest) x
+      → (is_before x ≡ true) ⊎ (x ≡ y)
+  at_most [] y rest all h x (inl k) = inr k.1
+  at_most [] y rest all h x (inr k) = absurd (k.0 h)
+  at_most (z ∷ zs) y rest all h x (inl k) = inl (ap is_before k.1 ∙ (and_parts (is_before z) (list_all is_before zs) all).0)
+  at_most (z ∷ zs) y rest all h x (inr k) = at_most zs y rest (and_parts (is_before z) (list_all is_before zs) all).1 h x k.1
 
-fill_stale : (s : State) (force : Bool) (from : ℕ) (area : Area) (a : Answer) (c : ℕ) → IsCallStep s (Fill force from area) a → is_refused_before a ≡ false
-    → (a ≡ Err (Stale c)) ↔ (stale_in s force (area ∷ []) ≡ Some c)
-fill_stale s force from area a c h f =
-    let r = applied s.stored (fill_edit s.stored.sheet from area).contents in
-    let large = nat_lt max_area (size_of area) in
-    let leaves = list_any (has_no_copy (content_of s.stored.sheet from) from) (cells_of area) in
-    stale_answer (when large TooLarge) (when leaves LeavesSheet) (stale_in s force (area ∷ [])) r (with_stored s (area ∷ []) r, []) a c
-    (when_before large TooLarge refl) (when_before leaves LeavesSheet refl) h f
+  abbrev front : List Cause
+  front =
+      BadLine ∷ BadCommand ∷ CutShort ∷ Outside ∷ TooLarge ∷ NoScenario ∷ InUse ∷ TooMany ∷ BadField ∷ TooLong ∷ OutOfSheet ∷ NumberRange ∷ TooDeep ∷ Syntax ∷ LeavesSheet ∷ []
 
-csv_stale : (s : State) (force : Bool) (at : ℕ) (text : List ℕ) (a : Answer) (c : ℕ) → IsCallStep s (Csv force at text) a → is_refused_before a ≡ false
-    → (a ≡ Err (Stale c)) ↔ (stale_in s force (record_areas_at at text) ≡ Some c)
-csv_stale s force at text a c h f =
-    let r = applied s.stored (contents_in h.read) in
-    stale_answer (when (has_bad_field h.read) BadField) (field_fault h.read) (stale_in s force (record_areas_at at text)) r (with_stored s (record_areas_at at text) r, []) a c
-    (when_before (has_bad_field h.read) BadField refl) (field_before h.read) h.answered f
+  is_stale : (b : Answer) (a : ℕ) → IsStep s c b → b ≡ Err (refusal.Stale a) → stale_cell s c ≡ Some a
+  is_stale b a h e =
+      let k = subst (IsStep s c) e h in
+      let t = subst (λ (x : Cause). Tells s c x (refusal.Stale a)) (stale_only k.0 a k.2) k.2 in
+      t.1 ∙ ap Some (sym (one_cell a t.0 t.2))
 
--- the first stale cell of an edit that names these rectangles
-abbrev stale_of : State → Bool → Option (List Area) → Option ℕ
-stale_of s force None = None
-stale_of s force (Some named) = stale_in s force named
+  told_stale : (b : Answer) (a : ℕ) → IsStep s c b → is_forced c ≡ false → is_refused_before b ≡ false → stale_cell s c ≡ Some a → b ≡ Err (refusal.Stale a)
+  told_stale (Ok done) a h free f e = absurd (h.0 Stale (free, λ n. none-some a (sym n ∙ e)))
+  told_stale (Err d) a h free f e = by (at_most front Stale (Loop ∷ Full ∷ EditLimit ∷ []) refl (free, λ n. none-some a (sym n ∙ e)) h.0 h.1)
+    where
+      one : (b : ℕ) → ◌≡◌ {A = Option ℕ} (Some b) (Some a) → b ≡ a
+      one b k = cc
 
-edit_stale : (s : State) (c : Call) (a : Answer) (named : List Area) (at : ℕ) → IsCallStep s c a → named_by_call c ≡ Some named → is_refused_before a ≡ false
-    → (a ≡ Err (Stale at)) ↔ (stale_of s (is_forced_call c) (named_by_call c) ≡ Some at)
-edit_stale s (Set force from text) a named at h n f = set_stale s force from text a at h f
-edit_stale s (Clear force area) a named at h n f = clear_stale s force area a at h f
-edit_stale s (Fill force from area) a named at h n f = fill_stale s force from area a at h f
-edit_stale s (Csv force from text) a named at h n f = csv_stale s force from text a at h f
-edit_stale s c a named at h n f = absurd (none-some named n)
+      by : (is_before h.0 ≡ true) ⊎ (h.0 ≡ Stale) → ◌≡◌ {A = Answer} (Err d) (Err (refusal.Stale a))
+      by (inl k) = absurd (both_ways (counts_before d) f (counts h.0 k d h.2))
+      by (inr k) =
+          let t = subst (λ (x : Cause). Tells s c x d) k h.2 in
+          ap (λ (x : Refusal). let z : Answer = Err x in z) (t.2 ∙ ap refusal.Stale (one t.0 (sym t.1 ∙ e)))
 
--- ---- the laws
+  forced_not : (b : Answer) (a : ℕ) → IsStep s c b → is_forced c ≡ true → b ≢ Err (refusal.Stale a)
+  forced_not b a h forced e =
+      let k = subst (IsStep s c) e h in
+      let held = subst (λ (x : Cause). Holds s x c) (stale_only k.0 a k.2) (first_holds s c causes k.0 k.1) in
+      both_ways (is_forced c) held.0 forced
 
-pub stale_is_newer : (s : State) (es : List (Event Call)) (e : Event Call) (named : List Area) → IsCoherent s → MayFollow IsCallStep s es → named_by_call e.command ≡ Some named
-    → StaleIsNewer IsCallStep is_changes_call named_by_call is_forced_call s es e named
-stale_is_newer s es e named settled run n h free f a = by h
+pub stale_is_newer : (s : State) (es : List (Event Command)) (e : Event Command) → IsCoherent s → MayFollow IsStep s es
+    → StaleIsNewer IsStep is_changes named_by is_forced s es e (named e.command)
+stale_is_newer s es e settled run h free f a = by h
   where
     t : State
     t = state_after s es
 
-    stale : stale_of t (is_forced_call e.command) (named_by_call e.command) ≡ first_stale (unseen t t.current) t.current 0 named
-    stale = ap (λ (b : Bool). stale_of t b (named_by_call e.command)) free ∙ ap (stale_of t false) n
+    exactly : (stale_cell t e.command ≡ Some a) ↔ IsFirstNewer (edits_since is_changes named_by t.current (unseen s t.current) s es) t.current (named e.command) a
+    exactly = stale_since IsStep is_changes named_by tells_and_logs s es t.current (named e.command) a settled run
 
-    exactly : (first_stale (unseen t t.current) t.current 0 named ≡ Some a) ↔ IsFirstNewer (edits_since is_changes_call named_by_call t.current (unseen s t.current) s es) t.current named a
-    exactly = stale_since IsCallStep is_changes_call named_by_call tells_and_logs s es t.current named a settled run
+    by : MayHappen IsStep t e → (e.answer ≡ Err (refusal.Stale a)) ↔ IsFirstNewer (edits_since is_changes named_by t.current (unseen s t.current) s es) t.current (named e.command) a
+    by (inl k) = (λ x. exactly.0 (is_stale t e.command e.answer a k x), λ y. told_stale t e.command e.answer a k free f (exactly.1 y))
+    by (inr k) = absurd (both_ways (is_refused_before e.answer) f (ap is_refused_before k))
 
-    by : MayHappen IsCallStep t e → (e.answer ≡ Err (Stale a)) ↔ IsFirstNewer (edits_since is_changes_call named_by_call t.current (unseen s t.current) s es) t.current named a
-    by (inl k) =
-        let found = edit_stale t e.command e.answer named a k n f in
-        (λ x. exactly.0 (sym stale ∙ found.0 x), λ y. found.1 (stale ∙ exactly.1 y))
-    by (inr k) = absurd (not_before Memory e.answer refl (sym k) f)
-
-other_refusal : (a : ℕ) → ◌≡◌ {A = Answer} (Err Memory) (Err (Stale a)) → ⊥
-other_refusal a h = cc
-
-pub forced_is_not_stale : (s : State) (e : Event Call) → ForcedIsNotStale IsCallStep is_forced_call s e
-forced_is_not_stale s e (inr k) forced a x = other_refusal a (sym k ∙ x)
-forced_is_not_stale s e (inl k) forced a x = by e.command k forced
+pub forced_is_not_stale : (s : State) (e : Event Command) → ForcedIsNotStale IsStep is_forced s e
+forced_is_not_stale s e (inl h) forced a x = forced_not s e.command e.answer a h forced x
+forced_is_not_stale s e (inr h) forced a x = other (refused_so refusal.Memory (refusal.Stale a) (sym h ∙ x))
   where
-    free : is_refused_before e.answer ≡ false
-    free = ap is_refused_before x
-
-    by : (c : Call) → IsCallStep s c e.answer → is_forced_call c ≡ true → ⊥
-    by (Set true from text) h t = none-some a ((set_stale s true from text e.answer a h free).0 x)
-    by (Clear true area) h t = none-some a ((clear_stale s true area e.answer a h free).0 x)
-    by (Fill true from area) h t = none-some a ((fill_stale s true from area e.answer a h free).0 x)
-    by (Csv true from text) h t = none-some a ((csv_stale s true from text e.answer a h free).0 x)
-    by c h t = false≢true t
+    other : ◌≡◌ {A = Refusal} refusal.Memory (refusal.Stale a) → ⊥
+    other k = cc

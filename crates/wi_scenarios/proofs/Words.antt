@@ -17,8 +17,8 @@ pub use Rattle.std.proofs.lemmas.Result.{IfOk-from_err, IfOk-weaker, err_from_is
 pub use Rattle.std.proofs.lemmas.Slice.Eq.{bytes_eq-Decides}
 pub use Rattle.std.specs.List.{All, AllByRecursion, AllZip, Any, find, flat_map, list_any, position_or_len, range_with_len, slice_index_or, slice_set}
 pub use Rattle.std.specs.Map.{keys_of}
-pub use Rattle.std.specs.Option.{option_copied, option_or}
-pub use Rattle.std.specs.Prelude.{IfOk, IfSome, IsErrOf, MatchResult, codes, filter, is_some, nat_le, nat_lt, option_map}
+pub use Rattle.std.specs.Option.{option_copied}
+pub use Rattle.std.specs.Prelude.{IfOk, IsErrOf, MatchResult, codes, filter, is_some, nat_le, nat_lt, option_map}
 pub use Rattle.std.specs.Result.{IsErrAnd}
 pub use Rattle.std.specs.Str.{bytes_eq}
 pub use Rattle.std.specs.declared.alloc.AllocError.{AllocError}
@@ -30,7 +30,7 @@ pub use Rattle.wi_edit_log.proofs.Least.{stale_is_first}
 pub use Rattle.wi_edit_log.specs.EditLog.{Entry, first_stale}
 pub use Rattle.wi_edit_log.specs.Inner.Edits.{entries_in, is_wanted_of_others}
 pub use Rattle.wi_edit_log.specs.Inner.First.{IsFirst}
-pub use Rattle.wi_import.proofs.ImportLemmas.{no_other, some_import}
+pub use Rattle.wi_import.proofs.ImportLemmas.{no_other, one_list, some_import}
 pub use Rattle.wi_import.specs.Fields.{Field, fields_at, record_areas_at}
 pub use Rattle.wi_import.specs.Imports.{AreChanges, IsChange, IsFault}
 pub use Rattle.wi_import.specs.Inner.Reading.{field_cell}
@@ -59,30 +59,24 @@ pub use Rattle.wi_scenario_list.specs.Inner.Chains.{chain_within, effective}
 unfoldable pub use Rattle.wi_scenario_list.specs.Inner.Chains.{chain}
 pub use Rattle.wi_scenario_list.specs.Inner.Parts.{scenario_or_new}
 pub use Rattle.wi_scenario_list.specs.Scenarios.{Scenario, has_scenario, is_full, is_named, layered, max_scenarios, scenario_for, scenario_of, with_own, with_scenario, without_own, without_scenario}
-pub use Rattle.wi_scenarios.specs.Answer.{Answer, MayRefuse, MayRefuseData, Serves, ServesData, field_refusal, import_refusal, may_grow, parse_refusal}
+pub use Rattle.wi_scenarios.specs.Answer.{Answer, MayRefuse, MayRefuseData, Serves, ServesData, field_refusal, import_refusal, may_grow, parse_refusal, shift_refusal}
 pub use Rattle.wi_scenarios.specs.Asked.{asked_by_changes, asked_by_compare, asked_by_show, asked_by_table}
-pub use Rattle.wi_scenarios.specs.Causes.{answer, first_cause, no_cause, unless, when}
 pub use Rattle.wi_scenarios.specs.Changes.{change_list}
-pub use Rattle.wi_scenarios.specs.Clear.{clear_edit, clear_step}
-pub use Rattle.wi_scenarios.specs.Csv.{ImportOutcome, IsCsvStep, contents_in, csv_answer, field_fault, has_bad_field, imported_cells}
-pub use Rattle.wi_scenarios.specs.Edits.{Edit, edit_answer, edit_refusal, limit_of, stale_in, with_stored}
 pub use Rattle.wi_scenarios.specs.Events.{Event, ForcedIsNotStale, IsCoherent, IsFirstNewer, KeepsApart, ListsAddUp, LogGrows, MayFollow, MayHappen, RecordsTellList, StaleIsNewer, StaysCoherent, change_fields, counts_before, edits_in, edits_since, is_accepted_changes, is_newer, is_refused_before, is_told, last_shown, left_by, lists_told, logged, logged_by, state_after, unseen, with_lists}
-pub use Rattle.wi_scenarios.specs.Fill.{columns_between, copied, copy_to, fill_edit, fill_step, has_no_copy, or_nothing, rows_between, shift_refusal}
-pub use Rattle.wi_scenarios.specs.Inner.Copies.{AreCopies, CopiesAs, HasNoCopies}
+pub use Rattle.wi_scenarios.specs.Inner.Copies.{AreCopies, CopiesAs, HasNoCopies, columns_between, copy_to, has_no_copy, or_nothing, rows_between}
+pub use Rattle.wi_scenarios.specs.Inner.EditAnswer.{Edit, answer_by, edit_answer, limit_of, stale_in, with_stored}
 pub use Rattle.wi_scenarios.specs.Inner.Editing.{AreMarked, Commits, HasRooms, MayFail, SameBeside}
 pub use Rattle.wi_scenarios.specs.Inner.Sound.{AreClosed, AreCovered, IsClosed, IsSound, IsUpToDate, MakesSound, ServesSound, pending_in, state_of}
 pub use Rattle.wi_scenarios.specs.Inner.Switch.{AreDiffering, Differs, HasRoom, HasRoomFor, differing, same_option}
 pub use Rattle.wi_scenarios.specs.Inner.Told.{IsTold}
-pub use Rattle.wi_scenarios.specs.Laws.{HasScenarioChanged, IsEdited, Leaves, is_changes_call, is_forced_call, named_by_call}
-pub use Rattle.wi_scenarios.specs.Pending.{AddsOnly, Book, IsMarked, IsTouched, SameForOthers, is_pending, counts, occupied_cells}
-pub use Rattle.wi_scenarios.specs.Set.{IsSetStep, content_in, fault_in, set_answer, set_edit}
+pub use Rattle.wi_scenarios.specs.Commands.Edits.{copied}
+pub use Rattle.wi_scenarios.specs.Laws.{GivesChain, HasScenarioChanged, IsEdited, KeepsChains, Leaves, is_changes, named_by}
+pub use Rattle.wi_scenarios.specs.Pending.{AddsOnly, Book, IsMarked, IsTouched, SameForOthers, is_pending, counts, imported_cells, occupied_cells, occupied_in}
 pub use Rattle.wi_scenarios.specs.State.{State, max_area, state_over}
-pub use Rattle.wi_scenarios.specs.Step.{As, Base, Call, Changes, Clear, Compare, Csv, Drop, Export, Fill, Formula, IsCallStep, Refused, RefusedData, Set, Show, Table, Use}
-pub use Rattle.wi_scenarios.specs.Table.{table_step}
 pub use Rattle.wi_scenarios.specs.Views.{current_replacements, current_session, shown_to, with_current}
 pub use Rattle.wi_scenarios.specs.declared.desk.Desk.{Desk}
 pub use Rattle.wi_scenarios.specs.declared.refusal.Refusal.{Refusal}
-pub use Rattle.wi_scenarios.specs.declared.refusal.Refusal.TheVariants.{BadCommand, BadField, LeavesSheet, Loop, Memory, NoScenario, Stale, TooLarge, TooLong, TooMany}
+pub use Rattle.wi_scenarios.specs.declared.refusal.Refusal.TheVariants.{BadCommand, Loop, Memory, NoScenario, TooLarge, TooMany}
 pub use Rattle.wi_sessions.proofs.ChangeLists.{any_cells, picture_is_shown}
 pub use Rattle.wi_sessions.proofs.RosterLemmas.{all_have_so, one_of_all_has}
 pub use Rattle.wi_sessions.specs.Pictures.{same_value, value_in, with_changes}

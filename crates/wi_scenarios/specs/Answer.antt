@@ -6,6 +6,10 @@ use Rattle.wi_values.specs.declared.import.FieldFault.{FieldFault}
 use Rattle.wi_values.specs.declared.import.FieldFault.TheVariants as field
 use Rattle.wi_parser.specs.declared.fault.ParseFault.{ParseFault}
 use Rattle.wi_parser.specs.declared.fault.ParseFault.TheVariants as parse
+use Rattle.wi_parser.specs.declared.shift.ShiftFault.{ShiftFault}
+use Rattle.wi_parser.specs.declared.shift.ShiftFault.TheVariants as shift
+use Rattle.wi_store.specs.declared.fault.StoreFault.{StoreFault}
+use Rattle.wi_store.specs.declared.fault.StoreFault.TheVariants as store
 use Rattle.wi_import.specs.declared.fault.ImportFault.{ImportFault}
 use Rattle.wi_import.specs.declared.fault.ImportFault.TheVariants as import
 use Rattle.wi_scenarios.specs.declared.refusal.Refusal.{Refusal}
@@ -58,6 +62,17 @@ import_refusal import.BadField = BadField
 import_refusal import.TooLong = TooLong
 import_refusal import.OutOfSheet = OutOfSheet
 import_refusal import.Memory = Memory
+
+-- the refusal of a copy
+abbrev pub shift_refusal : ShiftFault → Refusal
+shift_refusal shift.LeavesSheet = LeavesSheet
+shift_refusal shift.Memory = Memory
+
+-- the refusal of an edit by the store
+abbrev pub edit_refusal : StoreFault → Refusal
+edit_refusal store.Full = Full
+edit_refusal store.EditLimit = EditLimit
+edit_refusal store.Memory = Memory
 
 -- the refusal of a text that is put into a scenario
 abbrev pub field_refusal : FieldFault → Refusal

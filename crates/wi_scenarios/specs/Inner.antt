@@ -1,5 +1,6 @@
 -- Words of the code's own contracts. Nothing here needs belief.
 pub mod Copies
+pub mod EditAnswer
 pub mod Editing
 pub mod Sound
 pub mod Switch

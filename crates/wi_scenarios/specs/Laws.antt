@@ -1,17 +1,18 @@
--- What a call leaves, and what the laws of `Events` are told of calls: which one asks for the change list, and what
--- edits name.
-use Rattle.std.specs.Prelude.{◌≡◌, ◌≢◌, ℕ, Bool, true, false, List, [], ◌∷◌, ◌++◌, length, Option, Some, None}
+-- What a command leaves, and what the laws of `Events` are told of commands: which one asks for the change list, and what edits name.
+use Rattle.std.specs.Prelude.{◌≡◌, ◌≢◌, ℕ, Bool, true, false, if◌then◌else◌, List, [], ◌∷◌, ◌++◌, length, Option, Some, None}
 use Rattle.wi_values.specs.Address.{Area}
-use Rattle.wi_parser.specs.Reads.{cell_area}
-use Rattle.wi_import.specs.Fields.{record_areas_at}
-use Rattle.wi_scenario_list.specs.Scenarios.{scenario_of}
+use Rattle.wi_scenario_list.specs.Scenarios.{IsChain, scenario_of}
+use Rattle.wi_scenario_list.specs.Bases.{HasChains}
 use Rattle.wi_sessions.specs.Sessions.{told, using_scenario, with_session, index_of}
 use Rattle.wi_scenarios.specs.State.{State}
-use Rattle.wi_scenarios.specs.Views.{current_session, with_current}
+use Rattle.wi_scenarios.specs.Views.{current_session, with_current, chain_of}
 use Rattle.wi_scenarios.specs.Changes.{change_list}
-use Rattle.wi_scenarios.specs.Step.{Call, Set, Clear, Fill, Csv, Scenario, Drop, Base, Use, As, Changes}
+use Rattle.wi_scenarios.specs.Events.{Event, MayFollow, state_after}
+use Rattle.wi_scenarios.specs.Commands.Command.{Command, Set, Clear, Fill, Csv, Scenario, Drop, Base, Use, As, Changes}
+use Rattle.wi_scenarios.specs.Commands.Edits.{named}
+use Rattle.wi_scenarios.specs.Commands.Step.{IsStep}
 
--- ---- what a call leaves
+-- ---- what a command leaves
 
 -- An edit that names these rectangles may change the sheet, and puts an entry into the log. All else is as it was.
 pub record IsEdited (named : List Area) (old new : State) : Type 0 where
@@ -28,12 +29,12 @@ pub record HasScenarioChanged (name : List ℕ) (old new : State) : Type 0 where
   pub current : new.current ≡ old.current
   pub log : new.log ≡ old.log
 
--- What an accepted call leaves. No other than these leaves anything but the state that was there.
-abbrev pub Leaves : Call → State → State → Type 0
-Leaves (Set force at text) old new = IsEdited (cell_area at ∷ []) old new
-Leaves (Clear force area) old new = IsEdited (area ∷ []) old new
-Leaves (Fill force from area) old new = IsEdited (area ∷ []) old new
-Leaves (Csv force at text) old new = IsEdited (record_areas_at at text) old new
+-- What an accepted command leaves. No other than these leaves anything but the state that was there.
+abbrev pub Leaves : Command → State → State → Type 0
+Leaves (Set force at text) old new = IsEdited (named (Set force at text)) old new
+Leaves (Clear force rect) old new = IsEdited (named (Clear force rect)) old new
+Leaves (Fill force at rect) old new = IsEdited (named (Fill force at rect)) old new
+Leaves (Csv force at n lines) old new = IsEdited (named (Csv force at n lines)) old new
 Leaves (Scenario name at text) old new = HasScenarioChanged name old new
 Leaves (Drop name) old new = HasScenarioChanged name old new
 Leaves (Base name other) old new = HasScenarioChanged name old new
@@ -42,25 +43,30 @@ Leaves (As name) old new = new ≡ record old { sessions = with_session old.sess
 Leaves Changes old new = new ≡ with_current old (told (current_session old) (change_list old) (length old.log))
 Leaves c old new = new ≡ old
 
--- ---- what the laws of commands one after another are told of calls
+-- ---- what the laws of commands one after another are told of them
 
 -- whether this is `changes`
-abbrev pub is_changes_call : Call → Bool
-is_changes_call Changes = true
-is_changes_call c = false
+abbrev pub is_changes : Command → Bool
+is_changes Changes = true
+is_changes c = false
 
--- the rectangles that an edit names; no other call is an edit
-abbrev pub named_by_call : Call → Option (List Area)
-named_by_call (Set force at text) = Some (cell_area at ∷ [])
-named_by_call (Clear force area) = Some (area ∷ [])
-named_by_call (Fill force from area) = Some (area ∷ [])
-named_by_call (Csv force at text) = Some (record_areas_at at text)
-named_by_call c = None
+abbrev pub is_edit : Command → Bool
+is_edit (Set force at text) = true
+is_edit (Clear force rect) = true
+is_edit (Fill force at rect) = true
+is_edit (Csv force at n lines) = true
+is_edit c = false
 
--- whether an edit is forced
-abbrev pub is_forced_call : Call → Bool
-is_forced_call (Set force at text) = force
-is_forced_call (Clear force area) = force
-is_forced_call (Fill force from area) = force
-is_forced_call (Csv force at text) = force
-is_forced_call c = false
+-- the rectangles that an edit names; no other command is an edit
+abbrev pub named_by : Command → Option (List Area)
+named_by c = if is_edit c then Some (named c) else None
+
+-- ---- chains
+
+-- where the scenarios have chains, those at the end have chains
+abbrev pub KeepsChains : State → List (Event Command) → Type 0
+KeepsChains s es = HasChains s.scenarios → MayFollow IsStep s es → HasChains (state_after s es).scenarios
+
+-- where the scenarios have chains, what `chain_of` gives is the chain
+abbrev pub GivesChain : State → Option (List ℕ) → Type 0
+GivesChain s name = HasChains s.scenarios → IsChain s.scenarios (scenario_of s.scenarios name) (chain_of s.scenarios name).0

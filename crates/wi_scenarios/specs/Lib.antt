@@ -2,15 +2,7 @@ pub mod State
 pub mod Views
 pub mod Answer
 pub mod Commands
-pub mod Causes
-pub mod Edits
-pub mod Set
-pub mod Clear
-pub mod Fill
-pub mod Csv
 pub mod Changes
-pub mod Table
-pub mod Step
 pub mod Events
 pub mod Laws
 pub mod Pending

@@ -1,11 +1,12 @@
--- What a workbook is seen as, and which cells may be pending for its sessions: those that may differ from what they
--- were shown.
-use Rattle.std.specs.Prelude.{◌≡◌, ◌≢◌, ℕ, ◌<◌, ◌⊎◌, ◌++◌, ◌∷◌, Bool, true, ◌-◌, List, [], All, filter, length}
+-- What a workbook is seen as, and which cells may be pending for its sessions: those that may differ from what they were shown.
+use Rattle.std.specs.Prelude.{◌≡◌, ◌≢◌, ℕ, ◌<◌, ◌⊎◌, ◌++◌, ◌∷◌, Bool, true, ◌-◌, List, [], All, filter, map, length}
 use Rattle.std.specs.List.{slice_index_or, slice_set}
 use Rattle.std.specs.Map.{keys_of}
-use Rattle.wi_values.specs.Address.{is_one_of, is_within}
+use Rattle.wi_values.specs.Address.{Area, is_one_of, is_within}
 use Rattle.wi_values.specs.Replacements.{replaced}
 use Rattle.wi_parser.specs.Sheet.{Sheet}
+use Rattle.wi_import.specs.Fields.{fields_at}
+use Rattle.wi_import.specs.Inner.Reading.{field_cell}
 use Rattle.wi_sessions.specs.Pictures.{sheet_size}
 use Rattle.wi_sessions.specs.Roster.{SameCells}
 use Rattle.wi_scenarios.specs.State.{State}
@@ -64,9 +65,16 @@ Emptied i before after = after ≡ slice_set before i []
 abbrev pub SameForOthers : ℕ → List (List ℕ) → List (List ℕ) → Type 0
 SameForOthers i before after = (j a : ℕ) → j ≢ i → is_pending after j a ≡ is_pending before j a
 
--- the occupied cells of a sheet
+-- the occupied cells of a rectangle, which `clear` edits, and those of a sheet
+abbrev pub occupied_in : Sheet → Area → List ℕ
+occupied_in sheet area = filter (is_within area) (keys_of sheet)
+
 abbrev pub occupied_cells : Sheet → List ℕ
-occupied_cells sheet = filter (is_within (record { first = 0; last = sheet_size - 1 })) (keys_of sheet)
+occupied_cells sheet = occupied_in sheet (record { first = 0; last = sheet_size - 1 })
+
+-- the cells of a text's fields, the first for the cell `at`, which `csv` edits
+abbrev pub imported_cells : ℕ → List ℕ → List ℕ
+imported_cells at text = map field_cell (fields_at at text)
 
 -- the pending cells are as they were, and those of a new session are the occupied cells
 abbrev pub HasNewSession : Sheet → List (List ℕ) → List (List ℕ) → Type 0

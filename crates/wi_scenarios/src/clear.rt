@@ -1,12 +1,14 @@
 //! The command `clear`: empties the cells of a rectangle.
 
 ghost use Rattle.std.specs.Prelude.{◌≡◌, [], map, None, IfOk, OnErr};
-ghost use Rattle.std.specs.Map.{keys_of};
 ghost use Rattle.wi_scenarios.specs.Answer.{Serves};
-ghost use Rattle.wi_scenarios.specs.Clear.{clear_edit, clear_step};
-ghost use Rattle.wi_scenarios.specs.Pending.{AddsOnly};
+ghost use Rattle.wi_scenarios.specs.Commands.Command as command;
+ghost use Rattle.wi_scenarios.specs.Commands.Operands.{corners};
+ghost use Rattle.wi_scenarios.specs.Commands.Step.{IsStep};
+ghost use Rattle.wi_scenarios.specs.Pending.{AddsOnly, occupied_in};
 ghost use Rattle.wi_scenarios.specs.Inner.Sound.{state_of, pending_in, IsSound};
 
+use crate::areas::is_spanned;
 use crate::desk::Desk;
 use crate::edit::edit_area;
 use crate::refusal::Refusal;
@@ -27,10 +29,10 @@ pub(crate) fn clear<C: Calculator>(
 ) -> Result<(), Refusal>
     requires { IsSound C.marked (C.stored calculator.old) desk.old }
     ensures step { let old = state_of (C.stored calculator.old) desk.old in
-        Serves (λ a. clear_step old force area ≡ a)
+        Serves (IsStep old (command.Clear force (corners area)))
         result old (state_of (C.stored calculator.new) desk.new) [] }
     ensures adds { AddsOnly C.marked
-        (keys_of (clear_edit (C.stored calculator.old).sheet area).contents)
+        (occupied_in (C.stored calculator.old).sheet area)
         (state_of (C.stored calculator.old) desk.old)
         (state_of (C.stored calculator.new) desk.new) (pending_in desk.old) (pending_in desk.new) }
     ensures refused { OnErr result (pending_in desk.new ≡ pending_in desk.old) }
@@ -38,6 +40,7 @@ pub(crate) fn clear<C: Calculator>(
     ensures counts { (C.evaluated calculator.new ≡ C.evaluated calculator.old)
         × (C.restarted calculator.new ≡ C.restarted calculator.old) }
 {
+    is_spanned(area);
     let cells = occupied_in(alloc, calculator, area)?;
     let mut contents = emptied(alloc, &cells)?;
     edit_area(alloc, calculator, desk, area, &mut contents, force)

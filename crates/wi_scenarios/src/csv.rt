@@ -2,10 +2,11 @@
 
 ghost use Rattle.std.specs.Prelude.{◌≡◌, OnErr};
 ghost use Rattle.wi_scenarios.specs.Answer.{ServesData};
-ghost use Rattle.wi_scenarios.specs.Csv.{IsCsvStep, imported_cells};
-ghost use Rattle.wi_scenarios.specs.Pending.{AddsOnly};
+ghost use Rattle.wi_scenarios.specs.Commands.Step.{IsImportStep};
+ghost use Rattle.wi_scenarios.specs.Pending.{AddsOnly, imported_cells};
 ghost use Rattle.wi_scenarios.specs.Inner.Sound.{state_of, pending_in, IsSound};
 
+use crate::areas::is_placed;
 use crate::desk::Desk;
 use crate::edit::apply_edit;
 use crate::refusal::Refusal;
@@ -27,7 +28,7 @@ pub(crate) fn import<C: Calculator>(
 ) -> Result<(), Refusal>
     requires { IsSound C.marked (C.stored calculator.old) desk.old }
     ensures step { let old = state_of (C.stored calculator.old) desk.old in
-        ServesData (IsCsvStep old force at text.now)
+        ServesData (IsImportStep old force at text.now)
         result old (state_of (C.stored calculator.new) desk.new) }
     ensures adds { AddsOnly C.marked
         (imported_cells at text.now) (state_of (C.stored calculator.old) desk.old)
@@ -37,6 +38,7 @@ pub(crate) fn import<C: Calculator>(
     ensures counts { (C.evaluated calculator.new ≡ C.evaluated calculator.old)
         × (C.restarted calculator.new ≡ C.restarted calculator.old) }
 {
+    is_placed(at);
     let found = read_import(alloc, at, text)?;
     let named = Named::new(found.named)?;
     let mut contents = found.changes;

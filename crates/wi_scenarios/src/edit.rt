@@ -6,10 +6,9 @@ ghost use Rattle.wi_store.specs.Store.{applied};
 ghost use Rattle.wi_sessions.specs.Roster.{vacant_of, is_pending_for_all};
 ghost use Rattle.wi_sessions.specs.Sessions.{max_sessions};
 ghost use Rattle.wi_scenarios.specs.Answer.{Serves};
-ghost use Rattle.wi_scenarios.specs.Causes.{no_cause};
-ghost use Rattle.wi_scenarios.specs.Edits.{edit_answer};
 ghost use Rattle.wi_scenarios.specs.Pending.{AddsOnly};
 ghost use Rattle.wi_scenarios.specs.Inner.Sound.{state_of, pending_in, IsClosed, IsSound};
+ghost use Rattle.wi_scenarios.specs.Inner.EditAnswer.{edit_answer};
 ghost use Rattle.wi_scenarios.specs.Inner.Editing.{stale_on, AreMarked, HasRooms, SameBeside, Commits};
 
 use crate::desk::Desk;
@@ -39,7 +38,7 @@ pub(crate) fn apply_edit<C: Calculator>(
 ) -> Result<(), Refusal>
     requires { IsSound C.marked (C.stored calculator.old) desk.old }
     ensures step { let old = state_of (C.stored calculator.old) desk.old in
-        Serves (λ a. edit_answer old force no_cause
+        Serves (λ a. edit_answer old force
         (record { named = named; contents = contents.old }) ≡ a)
         result old (state_of (C.stored calculator.new) desk.new) [] }
     ensures adds { AddsOnly C.marked
@@ -67,7 +66,7 @@ fn edit_caught_up<C: Calculator>(
 ) -> Result<(), Refusal>
     requires { IsSound C.marked (C.stored calculator.old) desk.old }
     ensures step { let old = state_of (C.stored calculator.old) desk.old in
-        Serves (λ a. edit_answer old force no_cause
+        Serves (λ a. edit_answer old force
         (record { named = named; contents = contents.old }) ≡ a)
         result old (state_of (C.stored calculator.new) desk.new) [] }
     ensures adds { AddsOnly C.marked
@@ -105,7 +104,7 @@ pub(crate) fn edit_area<C: Calculator>(
 ) -> Result<(), Refusal>
     requires { IsSound C.marked (C.stored calculator.old) desk.old }
     ensures step { let old = state_of (C.stored calculator.old) desk.old in
-        Serves (λ a. edit_answer old force no_cause
+        Serves (λ a. edit_answer old force
         (record { named = area ∷ []; contents = contents.old }) ≡ a)
         result old (state_of (C.stored calculator.new) desk.new) [] }
     ensures adds { AddsOnly C.marked

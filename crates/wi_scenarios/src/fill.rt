@@ -4,12 +4,15 @@ ghost use Rattle.std.specs.Prelude.{◌≡◌, ◌<◌, ◌++◌, ℕ, List, [],
 ghost use Rattle.std.specs.Option.{option_copied};
 ghost use Rattle.wi_values.specs.Address.{rows, cells_of, cells_of_row};
 ghost use Rattle.wi_scenarios.specs.Answer.{Serves};
-ghost use Rattle.wi_scenarios.specs.Fill.{rows_between, columns_between, copied, fill_step};
+ghost use Rattle.wi_scenarios.specs.Commands.Command as command;
+ghost use Rattle.wi_scenarios.specs.Commands.Operands.{cell, corners};
+ghost use Rattle.wi_scenarios.specs.Commands.Edits.{copied};
+ghost use Rattle.wi_scenarios.specs.Commands.Step.{IsStep};
 ghost use Rattle.wi_scenarios.specs.Pending.{AddsOnly};
-ghost use Rattle.wi_scenarios.specs.Inner.Copies.{CopiesAs, AreCopies, HasNoCopies};
+ghost use Rattle.wi_scenarios.specs.Inner.Copies.{rows_between, columns_between, CopiesAs, AreCopies, HasNoCopies};
 ghost use Rattle.wi_scenarios.specs.Inner.Sound.{state_of, pending_in, IsSound};
 
-use crate::areas::is_too_large;
+use crate::areas::{is_placed, is_spanned, is_too_large};
 use crate::desk::Desk;
 use crate::edit::edit_area;
 use crate::refusal::Refusal;
@@ -30,7 +33,7 @@ pub(crate) fn fill<C: Calculator>(
 ) -> Result<(), Refusal>
     requires { IsSound C.marked (C.stored calculator.old) desk.old }
     ensures step { let old = state_of (C.stored calculator.old) desk.old in
-        Serves (λ a. fill_step old force from area ≡ a)
+        Serves (IsStep old (command.Fill force (cell from) (corners area)))
         result old (state_of (C.stored calculator.new) desk.new) [] }
     ensures adds { AddsOnly C.marked (cells_of area) (state_of (C.stored calculator.old) desk.old)
         (state_of (C.stored calculator.new) desk.new) (pending_in desk.old) (pending_in desk.new) }
@@ -39,6 +42,8 @@ pub(crate) fn fill<C: Calculator>(
     ensures counts { (C.evaluated calculator.new ≡ C.evaluated calculator.old)
         × (C.restarted calculator.new ≡ C.restarted calculator.old) }
 {
+    is_placed(from);
+    is_spanned(area);
     if is_too_large(area) {
         return Err(Refusal::TooLarge);
     }

@@ -156,7 +156,7 @@ impl From<ParseFault> for Refusal {
 }
 
 impl From<ShiftFault> for Refusal {
-    ghost use Rattle.wi_scenarios.specs.Fill.{shift_refusal};
+    ghost use Rattle.wi_scenarios.specs.Answer.{shift_refusal};
 
     ghost from_gives = { λ fault e. e ≡ shift_refusal fault };
 
@@ -169,7 +169,7 @@ impl From<ShiftFault> for Refusal {
 }
 
 impl From<StoreFault> for Refusal {
-    ghost use Rattle.wi_scenarios.specs.Edits.{edit_refusal};
+    ghost use Rattle.wi_scenarios.specs.Answer.{edit_refusal};
 
     ghost from_gives = { λ fault e. e ≡ edit_refusal fault };
 

@@ -2,10 +2,13 @@
 
 ghost use Rattle.std.specs.Prelude.{◌≡◌, [], ◌∷◌, OnErr};
 ghost use Rattle.wi_scenarios.specs.Answer.{Serves};
-ghost use Rattle.wi_scenarios.specs.Set.{IsSetStep};
+ghost use Rattle.wi_scenarios.specs.Commands.Command as command;
+ghost use Rattle.wi_scenarios.specs.Commands.Operands.{cell};
+ghost use Rattle.wi_scenarios.specs.Commands.Step.{IsStep};
 ghost use Rattle.wi_scenarios.specs.Pending.{AddsOnly};
 ghost use Rattle.wi_scenarios.specs.Inner.Sound.{state_of, pending_in, IsSound};
 
+use crate::areas::is_placed;
 use crate::desk::Desk;
 use crate::edit::edit_area;
 use crate::refusal::Refusal;
@@ -25,7 +28,7 @@ pub(crate) fn set<C: Calculator>(
 ) -> Result<(), Refusal>
     requires { IsSound C.marked (C.stored calculator.old) desk.old }
     ensures step { let old = state_of (C.stored calculator.old) desk.old in
-        Serves (IsSetStep old force at content.now)
+        Serves (IsStep old (command.Set force (cell at) content.now))
         result old (state_of (C.stored calculator.new) desk.new) [] }
     ensures adds { AddsOnly C.marked (at ∷ []) (state_of (C.stored calculator.old) desk.old)
         (state_of (C.stored calculator.new) desk.new) (pending_in desk.old) (pending_in desk.new) }
@@ -34,6 +37,7 @@ pub(crate) fn set<C: Calculator>(
     ensures counts { (C.evaluated calculator.new ≡ C.evaluated calculator.old)
         × (C.restarted calculator.new ≡ C.restarted calculator.old) }
 {
+    is_placed(at);
     if content.is_empty() {
         return Err(Refusal::BadCommand);
     }

@@ -4,8 +4,11 @@
 ghost use Rattle.std.specs.Prelude.{◌≡◌, ◌++◌, ℕ, List};
 ghost use Rattle.wi_reports.specs.Looks.{Costs};
 ghost use Rattle.wi_scenarios.specs.Answer.{Serves};
-ghost use Rattle.wi_scenarios.specs.Table.{table_step};
+ghost use Rattle.wi_scenarios.specs.Commands.Command as command;
+ghost use Rattle.wi_scenarios.specs.Commands.Operands.{cell, corners, second_input};
+ghost use Rattle.wi_scenarios.specs.Commands.Step.{IsStep};
 ghost use Rattle.wi_scenarios.specs.Asked.{asked_by_table};
+ghost use Rattle.wi_scenarios.specs.Inner.Placed.{IsTablePlaced};
 ghost use Rattle.wi_scenarios.specs.Inner.Sound.{state_of, IsSound};
 
 use crate::areas::MAX_AREA;
@@ -26,11 +29,14 @@ pub(crate) fn table<C: Calculator>(
     table: &DataTable,
     out: &mut Vec<u8>,
 ) -> Result<(), Refusal>
-    requires { IsSound C.marked (C.stored calculator.old) desk.now }
+    requires sound { IsSound C.marked (C.stored calculator.old) desk.now }
+    requires placed { IsTablePlaced table.now.formula_cell table.now.input table.now.column
+        table.now.second }
     ensures step { let old = state_of (C.stored calculator.old) desk.now in
         (records : List ℕ) × (out.new.items ≡ out.old.items ++ records)
-        × Serves (λ a. table_step old table.now.formula_cell table.now.input table.now.column
-        table.now.second ≡ a) result old (state_of (C.stored calculator.new) desk.now) records }
+        × Serves (IsStep old (command.Table (cell table.now.formula_cell) (cell table.now.input)
+        (corners table.now.column) (second_input table.now.second)))
+        result old (state_of (C.stored calculator.new) desk.now) records }
     ensures same { C.stored calculator.new ≡ C.stored calculator.old }
     ensures cost { let old = state_of (C.stored calculator.old) desk.now in
         Costs old.stored.sheet (asked_by_table old table.now.formula_cell table.now.input

@@ -2,7 +2,6 @@
 
 ghost use Rattle.std.specs.Prelude.{◌≡◌, ◌≢◌, ◌++◌, ◌∷◌, ℕ, List, [], true, false, is_ok, option_map, Err, IfOk, OnOk, OnErr};
 ghost use Rattle.std.specs.Option.{option_copied};
-ghost use Rattle.std.specs.Map.{keys_of};
 ghost use Rattle.wi_values.specs.Address.{cells_of};
 ghost use Rattle.wi_values.specs.Name.{bytes_of};
 ghost use Rattle.wi_sessions.specs.Sessions.{has_session};
@@ -12,15 +11,12 @@ ghost use Rattle.wi_scenarios.specs.declared.refusal.Refusal.TheVariants.{Memory
 ghost use Rattle.wi_scenarios.specs.State.{state_over};
 ghost use Rattle.wi_scenarios.specs.Answer.{Serves, ServesData};
 ghost use Rattle.wi_scenarios.specs.Commands.Command as command;
-ghost use Rattle.wi_scenarios.specs.Commands.Operands.{cell, corners};
-ghost use Rattle.wi_scenarios.specs.Commands.Step.{IsStep};
-ghost use Rattle.wi_scenarios.specs.Clear.{clear_edit};
-ghost use Rattle.wi_scenarios.specs.Csv.{imported_cells};
-ghost use Rattle.wi_scenarios.specs.Step as call;
-ghost use Rattle.wi_scenarios.specs.Step.{IsCallStep};
+ghost use Rattle.wi_scenarios.specs.Commands.Operands.{cell, corners, second_input};
+ghost use Rattle.wi_scenarios.specs.Commands.Step.{IsStep, IsImportStep};
 ghost use Rattle.wi_scenarios.specs.Asked.{asked_by_show, asked_by_changes, asked_by_compare, asked_by_table};
-ghost use Rattle.wi_scenarios.specs.Pending.{AddsOnly, SameForOthers, SameCounts, counts, Emptied, HasNewSession, pending_for, occupied_cells};
+ghost use Rattle.wi_scenarios.specs.Pending.{AddsOnly, SameForOthers, SameCounts, counts, Emptied, HasNewSession, pending_for, occupied_in, occupied_cells, imported_cells};
 
+use crate::areas::is_table_placed;
 use crate::base::base;
 use crate::changes::changes;
 use crate::clear::clear;
@@ -120,7 +116,7 @@ impl<C: Calculator> Workbook<C> {
     /// something new, or a cycle may be closed or opened. The memory for a session grows with the cells that aren't
     /// pending for it.
     pub fn set(&mut self, at: Address, content: &str, force: bool) -> Result<(), Refusal>
-        ensures step { Serves (IsCallStep self.old.state (call.Set force at content.now))
+        ensures step { Serves (IsStep self.old.state (command.Set force (cell at) content.now))
             result self.old.state self.new.state [] }
         ensures adds { AddsOnly C.marked (at ∷ [])
             self.old.state self.new.state self.old.pending self.new.pending }
@@ -140,10 +136,10 @@ impl<C: Calculator> Workbook<C> {
     /// Empties the cells of a rectangle of any size. `force` is as of `set`. The work grows with its occupied cells;
     /// for each a search passes cells that stand beside it, in no more rows than the rectangle has columns.
     pub fn clear(&mut self, area: Rect, force: bool) -> Result<(), Refusal>
-        ensures step { Serves (IsCallStep self.old.state (call.Clear force area))
+        ensures step { Serves (IsStep self.old.state (command.Clear force (corners area)))
             result self.old.state self.new.state [] }
         ensures adds { AddsOnly C.marked
-            (keys_of (clear_edit self.old.state.stored.sheet area).contents)
+            (occupied_in self.old.state.stored.sheet area)
             self.old.state self.new.state self.old.pending self.new.pending }
         ensures refused { OnErr result (self.new.pending ≡ self.old.pending) }
         ensures counts { SameCounts self.old self.new }
@@ -161,7 +157,7 @@ impl<C: Calculator> Workbook<C> {
     /// formula's references move by the distance; where one would leave the sheet, the whole command is refused. From
     /// an empty cell the rectangle is emptied. `force` is as of `set`. The work grows with the cells of the rectangle.
     pub fn fill(&mut self, from: Address, area: Rect, force: bool) -> Result<(), Refusal>
-        ensures step { Serves (IsCallStep self.old.state (call.Fill force from area))
+        ensures step { Serves (IsStep self.old.state (command.Fill force (cell from) (corners area)))
             result self.old.state self.new.state [] }
         ensures adds { AddsOnly C.marked (cells_of area)
             self.old.state self.new.state self.old.pending self.new.pending }
@@ -182,7 +178,7 @@ impl<C: Calculator> Workbook<C> {
     /// and j - 1 right of the cell. An empty field empties its cell; cells without a field stay. It is one edit, done
     /// whole or not at all. `force` is as of `set`. The work grows with the text.
     pub fn import(&mut self, at: Address, text: &[u8], force: bool) -> Result<(), Refusal>
-        ensures step { ServesData (IsCallStep self.old.state (call.Csv force at text.now))
+        ensures step { ServesData (IsImportStep self.old.state force at text.now)
             result self.old.state self.new.state }
         ensures adds { AddsOnly C.marked (imported_cells at text.now)
             self.old.state self.new.state self.old.pending self.new.pending }
@@ -414,13 +410,15 @@ impl<C: Calculator> Workbook<C> {
         out: &mut Vec<u8>,
     ) -> Result<(), Refusal>
         ensures step { (records : List ℕ) × (out.new.items ≡ out.old.items ++ records)
-            × Serves (IsCallStep self.old.state (call.Table formula_cell input column second))
+            × Serves (IsStep self.old.state (command.Table (cell formula_cell) (cell input)
+            (corners column) (second_input second)))
             result self.old.state self.new.state records }
         ensures pending { self.new.pending ≡ self.old.pending }
         ensures cost { let old = self.old.state in
             Costs old.stored.sheet (asked_by_table old formula_cell input column second)
             (counts self.old) (counts self.new) }
     {
+        is_table_placed(formula_cell, input, column, &second);
         let asked = DataTable {
             formula_cell,
             input,

@@ -1,5 +1,5 @@
 -- The causes of the order with their codes, and the first of them.
-use Rattle.wi_cli.proofs.Vocabulary.{◌≡◌, ◌↔◌, List, [], ◌∷◌, inl, inr, codes, refl, sym, ap, ap₂, ◌∙◌, Contains, State, Bytes, Command, Cause, BadLine, BadCommand, CutShort, Outside, TooLarge, NoScenario, InUse, TooMany, BadField, TooLong, OutOfSheet, NumberRange, TooDeep, Syntax, LeavesSheet, Stale, Loop, Full, EditLimit, order, IsFirst, late, causes, IsFirstOf}
+use Rattle.wi_cli.proofs.Vocabulary.{◌≡◌, List, [], ◌∷◌, inl, inr, codes, refl, sym, ap, ap₂, ◌∙◌, Contains, State, Bytes, Command, Cause, BadLine, BadCommand, CutShort, Outside, TooLarge, NoScenario, InUse, TooMany, BadField, TooLong, OutOfSheet, NumberRange, TooDeep, Syntax, LeavesSheet, Stale, Loop, Full, EditLimit, order, IsFirst, late, causes, IsFirstOf}
 
 abbrev pub code : Cause → Bytes
 code BadCommand = codes "02"
@@ -63,5 +63,5 @@ module _ (s : State) (c : Command) where
   abbrev pub LateCoded : Type 0
   LateCoded = (x : Cause × Bytes) → IsFirst s c order x → Contains late x.0
 
-  pub same_late : Late ↔ LateCoded
-  same_late = (λ h x f. h x.0 (first_of x f).0, λ h x f. h (x, code x) (first_coded x f))
+  pub late_coded : Late → LateCoded
+  late_coded h x f = h x.0 (first_of x f).0

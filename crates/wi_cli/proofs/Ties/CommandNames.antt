@@ -1,7 +1,7 @@
 -- The names of commands.
 use Rattle.wi_cli.proofs.Vocabulary.{◌≡◌, Bool, true, false, if◌then◌else◌, refl, sym, subst, codes, bytes_eq, bytes_eq-Decides, edit_command, named_command, Bytes}
 use Rattle.wi_scenarios.specs.declared.refusal.Refusal.TheVariants as refusal
-use Rattle.wi_scenarios.specs.Step as old
+use Rattle.wi_cli.specs.Inner.Calls as call
 
 -- a name, or another word
 pub data Name : Type 0 where
@@ -34,7 +34,7 @@ pub data Edit : Bytes → Type 0 where
   set_edit : Edit (codes "set")
   clear_edit : Edit (codes "clear")
   fill_edit : Edit (codes "fill")
-  no_edit : (w : Bytes) → ((force : Bool) (operands : Bytes) → edit_command force w operands ≡ old.Refused refusal.BadCommand) → edit_name w ≡ OTHER → Edit w
+  no_edit : (w : Bytes) → ((force : Bool) (operands : Bytes) → edit_command force w operands ≡ call.Refused refusal.BadCommand) → edit_name w ≡ OTHER → Edit w
 
 pub edit_of : (w : Bytes) → Edit w
 edit_of w = by (bytes_eq w (codes "set")) (bytes_eq w (codes "clear")) (bytes_eq w (codes "fill")) refl refl refl

@@ -1,41 +1,41 @@
 -- For each name the operands that are spelled behind it, and the command that was read there.
-use Rattle.wi_cli.proofs.Vocabulary.{◌≡◌, ℕ, Bool, true, false, ◌==◌, ◌||◌, List, [], ◌∷◌, length, ◌⊎◌, inl, inr, Option, Some, None, Result, Ok, Err, option_map, if◌then◌else◌, refl, sym, ap, ap₂, ◌∙◌, result_err, both_ways, Area, read_address, read_rect, is_name, read_name, AddressFault, Shape, first_word, after_word, Bytes, at_end, of_operand, of_name, only_name, name_or_none, read_side, line_fault, is_column, is_row, is_all_spaces, set_command, fill_command, fill_command_of, scenario_command, base_command, use_command, changes_command, compare_command, formula_command, table_command, table_of_one, table_of_two, Cell, Corners, Operand, ADDR, RECT, NAME, SIDE, CONTENT, IsAddr, IsRect, IsSpelled, IsWritten, Set, Fill, Scenario, Base, Use, Compare, Table, Formula, Changes, was, read_cell, read_area}
+use Rattle.wi_cli.proofs.Vocabulary.{◌≡◌, ℕ, Bool, true, false, ◌==◌, ◌||◌, List, [], ◌∷◌, length, ◌⊎◌, inl, inr, Option, Some, None, Result, Ok, Err, option_map, if◌then◌else◌, refl, sym, ap, ap₂, ◌∙◌, result_err, both_ways, Area, read_address, read_rect, is_name, read_name, AddressFault, Shape, first_word, after_word, Bytes, at_end, of_operand, of_name, only_name, name_or_none, read_side, line_fault, is_column, is_row, is_all_spaces, set_command, fill_command, fill_command_of, scenario_command, base_command, use_command, changes_command, compare_command, formula_command, table_command, table_of_one, table_of_two, Cell, Corners, Operand, ADDR, RECT, NAME, SIDE, CONTENT, IsAddr, IsRect, IsSpelled, IsWritten, Set, Fill, Scenario, Base, Use, Compare, Table, Formula, Changes, call_of, read_cell, read_area}
 use Rattle.wi_values.specs.declared.address.AddressFault.TheVariants.{Outside}
 use Rattle.wi_scenarios.specs.declared.refusal.Refusal.TheVariants as refusal
-use Rattle.wi_scenarios.specs.Step as old
+use Rattle.wi_cli.specs.Inner.Calls as call
 use Rattle.wi_cli.proofs.Ties.Addresses.{same_addr}
 use Rattle.wi_cli.proofs.Ties.Rects.{same_rect}
 use Rattle.wi_cli.proofs.Ties.OperandsRead.{no_addr, no_rect, addr_or, rect_or, name_read, name_or, no_name, side_read, side_or, no_word}
 use Rattle.wi_cli.proofs.Ties.Tables.{is_shape, one_is_bad, two_is_bad}
 
 -- operands of this form are spelled, or none are and the command was refused
-abbrev pub Chosen : {X : Type 0} → Bytes → (X → List Operand) → old.Call → Type 0
-Chosen {X} text form before = ((x : X) × IsWritten text (form x)) ⊎ (((x : X) → IsWritten text (form x) → ⊥) × (before ≡ old.Refused refusal.BadCommand))
+abbrev pub Chosen : {X : Type 0} → Bytes → (X → List Operand) → call.Call → Type 0
+Chosen {X} text form before = ((x : X) × IsWritten text (form x)) ⊎ (((x : X) → IsWritten text (form x) → ⊥) × (before ≡ call.Refused refusal.BadCommand))
 
-end_true : (text : Bytes) (command : old.Call) → is_all_spaces text ≡ true → at_end text command ≡ command
-end_true text command e = ap (λ (b : Bool). if b then command else old.Refused refusal.BadCommand) e
+end_true : (text : Bytes) (command : call.Call) → is_all_spaces text ≡ true → at_end text command ≡ command
+end_true text command e = ap (λ (b : Bool). if b then command else call.Refused refusal.BadCommand) e
 
-end_false : (text : Bytes) (command : old.Call) → is_all_spaces text ≡ false → at_end text command ≡ old.Refused refusal.BadCommand
-end_false text command e = ap (λ (b : Bool). if b then command else old.Refused refusal.BadCommand) e
+end_false : (text : Bytes) (command : call.Call) → is_all_spaces text ≡ false → at_end text command ≡ call.Refused refusal.BadCommand
+end_false text command e = ap (λ (b : Bool). if b then command else call.Refused refusal.BadCommand) e
 
 -- ---- one operand
 
-module _ (command : Area → old.Call) where
+module _ (command : Area → call.Call) where
   abbrev rect_form : Corners → List Operand
   rect_form r = RECT r ∷ []
 
-  abbrev rect_was : Bytes → old.Call
-  rect_was text = at_end (after_word text) (of_operand (read_rect (first_word text)) command)
+  abbrev rect_call : Bytes → call.Call
+  rect_call text = at_end (after_word text) (of_operand (read_rect (first_word text)) command)
 
-  pub same_rect_end : (text : Bytes) (r : Corners) → IsWritten text (RECT r ∷ []) → rect_was text ≡ of_operand (read_area r) command
+  pub same_rect_end : (text : Bytes) (r : Corners) → IsWritten text (RECT r ∷ []) → rect_call text ≡ of_operand (read_area r) command
   same_rect_end text r h =
       end_true (after_word text) (of_operand (read_rect (first_word text)) command) h.1
       ∙ ap (λ (x : Result Area AddressFault). of_operand x command) ((same_rect (first_word text)).spelled r h.0)
 
-  pub rect_end : (text : Bytes) → Chosen text rect_form (rect_was text)
+  pub rect_end : (text : Bytes) → Chosen text rect_form (rect_call text)
   rect_end text = by (is_all_spaces (after_word text)) refl (rect_or (first_word text))
     where
-      by : (b : Bool) → is_all_spaces (after_word text) ≡ b → ((r : Corners) × IsRect (first_word text) r) ⊎ (read_rect (first_word text) ≡ Err Shape) → Chosen text rect_form (rect_was text)
+      by : (b : Bool) → is_all_spaces (after_word text) ≡ b → ((r : Corners) × IsRect (first_word text) r) ⊎ (read_rect (first_word text) ≡ Err Shape) → Chosen text rect_form (rect_call text)
       by false e k = inr (λ r h. both_ways _ e h.1, end_false (after_word text) (of_operand (read_rect (first_word text)) command) e)
       by true e (inl r) = inl (r.0, (r.1, e))
       by true e (inr bad) =
@@ -44,7 +44,7 @@ module _ (command : Area → old.Call) where
             end_true (after_word text) (of_operand (read_rect (first_word text)) command) e ∙ ap (λ (x : Result Area AddressFault). of_operand x command) bad,
           )
 
-module _ (command : Bytes → old.Call) where
+module _ (command : Bytes → call.Call) where
   abbrev name_form : Bytes → List Operand
   name_form name = NAME name ∷ []
 
@@ -85,7 +85,7 @@ maybe_is text (Some name) h = by (is_all_spaces text) refl
     by true e = absurd (no_spaces text name h e)
     by false e =
         ap (λ (b : Bool). if b then Some None else option_map (λ (n : Bytes). Some n) (only_name text)) e
-        ∙ ap (option_map (λ (n : Bytes). Some n)) (only_is (λ (n : Bytes). old.Drop n) text name h)
+        ∙ ap (option_map (λ (n : Bytes). Some n)) (only_is (λ (n : Bytes). call.Drop n) text name h)
 
 pub maybe_or : (text : Bytes) → ((o : Option Bytes) × IsWritten text (maybe_form o)) ⊎ (((o : Option Bytes) → IsWritten text (maybe_form o) → ⊥) × (name_or_none text ≡ None))
 maybe_or text = by (is_all_spaces text) refl (is_all_spaces (after_word text)) refl (name_or (first_word text))
@@ -111,9 +111,9 @@ maybe_or text = by (is_all_spaces text) refl (is_all_spaces (after_word text)) r
 abbrev pub set_form : Cell × Bytes → List Operand
 set_form x = ADDR x.0 ∷ CONTENT x.1 ∷ []
 
-pub same_set : (force : Bool) (text : Bytes) (x : Cell × Bytes) → IsWritten text (set_form x) → set_command force text ≡ was (Set force x.0 x.1)
+pub same_set : (force : Bool) (text : Bytes) (x : Cell × Bytes) → IsWritten text (set_form x) → set_command force text ≡ call_of (Set force x.0 x.1)
 same_set force text x h =
-    ap₂ (λ (r : Result ℕ AddressFault) (t : Bytes). if length t == 0 then old.Refused refusal.BadCommand else of_operand r (λ at. old.Set force at t)) ((same_addr (first_word text)).spelled x.0 h.0) h.1.0
+    ap₂ (λ (r : Result ℕ AddressFault) (t : Bytes). if length t == 0 then call.Refused refusal.BadCommand else of_operand r (λ at. call.Set force at t)) ((same_addr (first_word text)).spelled x.0 h.0) h.1.0
 
 pub set_or : (force : Bool) (text : Bytes) → Chosen text set_form (set_command force text)
 set_or force text = by (addr_or (first_word text)) (length (after_word text) == 0) refl
@@ -126,12 +126,12 @@ set_or force text = by (addr_or (first_word text)) (length (after_word text) == 
 abbrev pub fill_form : Cell × Corners → List Operand
 fill_form x = ADDR x.0 ∷ RECT x.1 ∷ []
 
-pub same_fill : (force : Bool) (text : Bytes) (x : Cell × Corners) → IsWritten text (fill_form x) → fill_command force text ≡ was (Fill force x.0 x.1)
+pub same_fill : (force : Bool) (text : Bytes) (x : Cell × Corners) → IsWritten text (fill_form x) → fill_command force text ≡ call_of (Fill force x.0 x.1)
 same_fill force text x h =
     end_true (after_word (after_word text)) (fill_command_of force (read_address (first_word text)) (read_rect (first_word (after_word text)))) h.1.1
     ∙ ap₂ (fill_command_of force) ((same_addr (first_word text)).spelled x.0 h.0) ((same_rect (first_word (after_word text))).spelled x.1 h.1.0)
 
-bad_area : (force : Bool) (r : Result ℕ AddressFault) → fill_command_of force r (Err Shape) ≡ old.Refused refusal.BadCommand
+bad_area : (force : Bool) (r : Result ℕ AddressFault) → fill_command_of force r (Err Shape) ≡ call.Refused refusal.BadCommand
 bad_area force (Ok a) = refl
 bad_area force (Err Shape) = refl
 bad_area force (Err Outside) = refl
@@ -155,10 +155,10 @@ fill_or force text = by (addr_or (first_word text)) (rect_or (first_word (after_
 abbrev pub cell_form : Cell → List Operand
 cell_form c = ADDR c ∷ []
 
-pub same_formula : (text : Bytes) (c : Cell) → IsWritten text (cell_form c) → formula_command text ≡ was (Formula c)
+pub same_formula : (text : Bytes) (c : Cell) → IsWritten text (cell_form c) → formula_command text ≡ call_of (Formula c)
 same_formula text c h =
-    end_true (after_word text) (of_operand (read_address (first_word text)) (λ at. old.Formula at)) h.1
-    ∙ ap (λ (r : Result ℕ AddressFault). of_operand r (λ at. old.Formula at)) ((same_addr (first_word text)).spelled c h.0)
+    end_true (after_word text) (of_operand (read_address (first_word text)) (λ at. call.Formula at)) h.1
+    ∙ ap (λ (r : Result ℕ AddressFault). of_operand r (λ at. call.Formula at)) ((same_addr (first_word text)).spelled c h.0)
 
 pub formula_or : (text : Bytes) → Chosen text cell_form (formula_command text)
 formula_or text = by (addr_or (first_word text)) (is_all_spaces (after_word text)) refl
@@ -171,11 +171,11 @@ formula_or text = by (addr_or (first_word text)) (is_all_spaces (after_word text
 abbrev pub scenario_form : Bytes × Cell × Bytes → List Operand
 scenario_form x = NAME x.0 ∷ ADDR x.1 ∷ CONTENT x.2 ∷ []
 
-pub same_scenario : (text : Bytes) (x : Bytes × Cell × Bytes) → IsWritten text (scenario_form x) → scenario_command text ≡ was (Scenario x.0 x.1 x.2)
+pub same_scenario : (text : Bytes) (x : Bytes × Cell × Bytes) → IsWritten text (scenario_form x) → scenario_command text ≡ call_of (Scenario x.0 x.1 x.2)
 same_scenario text x h =
-    ap (λ (o : Option Bytes). of_name o (λ name. of_operand (read_address (first_word (after_word text))) (λ at. old.Scenario name at (after_word (after_word text)))))
+    ap (λ (o : Option Bytes). of_name o (λ name. of_operand (read_address (first_word (after_word text))) (λ at. call.Scenario name at (after_word (after_word text)))))
     (name_read (first_word text) x.0 h.0.0 h.0.1)
-    ∙ ap₂ (λ (r : Result ℕ AddressFault) (t : Bytes). of_operand r (λ at. old.Scenario x.0 at t)) ((same_addr (first_word (after_word text))).spelled x.1 h.1.0) h.1.1.0
+    ∙ ap₂ (λ (r : Result ℕ AddressFault) (t : Bytes). of_operand r (λ at. call.Scenario x.0 at t)) ((same_addr (first_word (after_word text))).spelled x.1 h.1.0) h.1.1.0
 
 pub scenario_or : (text : Bytes) → Chosen text scenario_form (scenario_command text)
 scenario_or text = by (name_or (first_word text)) (addr_or (first_word (after_word text)))
@@ -191,10 +191,10 @@ scenario_or text = by (name_or (first_word text)) (addr_or (first_word (after_wo
 abbrev pub base_form : Bytes × Option Bytes → List Operand
 base_form x = NAME x.0 ∷ maybe_form x.1
 
-pub same_base : (text : Bytes) (x : Bytes × Option Bytes) → IsWritten text (base_form x) → base_command text ≡ was (Base x.0 x.1)
+pub same_base : (text : Bytes) (x : Bytes × Option Bytes) → IsWritten text (base_form x) → base_command text ≡ call_of (Base x.0 x.1)
 same_base text x h =
-    ap (λ (o : Option Bytes). of_name o (λ name. of_name (name_or_none (after_word text)) (λ other. old.Base name other))) (name_read (first_word text) x.0 h.0.0 h.0.1)
-    ∙ ap (λ (o : Option (Option Bytes)). of_name o (λ other. old.Base x.0 other)) (maybe_is (after_word text) x.1 h.1)
+    ap (λ (o : Option Bytes). of_name o (λ name. of_name (name_or_none (after_word text)) (λ other. call.Base name other))) (name_read (first_word text) x.0 h.0.0 h.0.1)
+    ∙ ap (λ (o : Option (Option Bytes)). of_name o (λ other. call.Base x.0 other)) (maybe_is (after_word text) x.1 h.1)
 
 pub base_or : (text : Bytes) → Chosen text base_form (base_command text)
 base_or text = by (name_or (first_word text)) (maybe_or (after_word text))
@@ -206,8 +206,8 @@ base_or text = by (name_or (first_word text)) (maybe_or (after_word text))
     by (inl n) (inr bad) = inr (λ x h. bad.0 x.1 h.1, rw (name_read (first_word text) (first_word text) refl n, bad.1) refl)
     by (inl n) (inl o) = inl ((first_word text, o.0), ((refl, n), o.1))
 
-pub same_use : (text : Bytes) (o : Option Bytes) → IsWritten text (maybe_form o) → use_command text ≡ was (Use o)
-same_use text o h = ap (λ (o : Option (Option Bytes)). of_name o (λ name. old.Use name)) (maybe_is text o h)
+pub same_use : (text : Bytes) (o : Option Bytes) → IsWritten text (maybe_form o) → use_command text ≡ call_of (Use o)
+same_use text o h = ap (λ (o : Option (Option Bytes)). of_name o (λ name. call.Use name)) (maybe_is text o h)
 
 pub use_or : (text : Bytes) → Chosen text maybe_form (use_command text)
 use_or text = by (maybe_or text)
@@ -221,8 +221,8 @@ use_or text = by (maybe_or text)
 abbrev pub no_form : Unit {0} → List Operand
 no_form x = []
 
-pub same_changes : (text : Bytes) → IsWritten text [] → changes_command text ≡ was Changes
-same_changes text h = end_true text old.Changes h
+pub same_changes : (text : Bytes) → IsWritten text [] → changes_command text ≡ call_of Changes
+same_changes text h = end_true text call.Changes h
 
 pub changes_or : (text : Bytes) → Chosen text no_form (changes_command text)
 changes_or text = by (is_all_spaces text) refl
@@ -243,13 +243,13 @@ module _ (text : Bytes) where
   abbrev third : Bytes
   third = after_word (after_word text)
 
-  abbrev compared : Option (Option Bytes) → Option (Option Bytes) → Result Area AddressFault → old.Call
-  compared p q r = of_name p (λ first. of_name q (λ second. of_operand r (λ area. old.Compare first second area)))
+  abbrev compared : Option (Option Bytes) → Option (Option Bytes) → Result Area AddressFault → call.Call
+  compared p q r = of_name p (λ first. of_name q (λ second. of_operand r (λ area. call.Compare first second area)))
 
   compare_is : is_all_spaces (after_word third) ≡ true → compare_command text ≡ compared (read_side (first_word text)) (read_side (first_word second)) (read_rect (first_word third))
   compare_is e = end_true (after_word third) (compared (read_side (first_word text)) (read_side (first_word second)) (read_rect (first_word third))) e
 
-  pub same_compare : (x : Option Bytes × Option Bytes × Corners) → IsWritten text (compare_form x) → compare_command text ≡ was (Compare x.0 x.1 x.2)
+  pub same_compare : (x : Option Bytes × Option Bytes × Corners) → IsWritten text (compare_form x) → compare_command text ≡ call_of (Compare x.0 x.1 x.2)
   same_compare x h =
       compare_is h.1.1.1
       ∙ ap (λ (p : Option (Option Bytes)). compared p (read_side (first_word second)) (read_rect (first_word third))) (side_read (first_word text) x.0 h.0)
@@ -330,17 +330,17 @@ module _ (text : Bytes) where
   abbrev more : Bytes
   more = after_word (after_word (after_word text))
 
-  abbrev read_one : old.Call
+  abbrev read_one : call.Call
   read_one = table_of_one (read_address (first_word text)) (read_address second_word) (read_rect third_word)
 
-  abbrev read_two : old.Call
+  abbrev read_two : call.Call
   read_two =
       table_of_two (read_address (first_word text)) (read_address second_word) (read_rect third_word) (read_address (first_word more)) (read_rect (first_word (after_word more)))
 
   by_more : (b : Bool) → is_all_spaces more ≡ b → table_command text ≡ (if b then read_one else at_end (after_word (after_word more)) read_two)
   by_more b e = ap (λ (v : Bool). if v then read_one else at_end (after_word (after_word more)) read_two) e
 
-  pub same_table : (f r : Cell) (xs : Corners) (o : Option (Cell × Corners)) → IsWritten text (table_form (f, r, xs, o)) → table_command text ≡ was (Table f r xs o)
+  pub same_table : (f r : Cell) (xs : Corners) (o : Option (Cell × Corners)) → IsWritten text (table_form (f, r, xs, o)) → table_command text ≡ call_of (Table f r xs o)
   same_table f r xs None h =
       by_more true h.1.1.1
       ∙ ap (λ (x : Result ℕ AddressFault). table_of_one x (read_address second_word) (read_rect third_word)) ((same_addr (first_word text)).spelled f h.0)
@@ -376,11 +376,11 @@ module _ (text : Bytes) where
   abbrev bad_ys : Bool
   bad_ys = is_shape (line_fault is_row (read_rect (first_word (after_word more))))
 
-  one_bad : is_all_spaces more ≡ true → (bad_f ≡ true) ⊎ ((bad_r ≡ true) ⊎ (bad_xs ≡ true)) → table_command text ≡ old.Refused refusal.BadCommand
+  one_bad : is_all_spaces more ≡ true → (bad_f ≡ true) ⊎ ((bad_r ≡ true) ⊎ (bad_xs ≡ true)) → table_command text ≡ call.Refused refusal.BadCommand
   one_bad e h = by_more true e ∙ one_is_bad (read_address (first_word text)) (read_address second_word) (read_rect third_word) (third_is bad_f bad_r bad_xs h)
 
   two_bad : is_all_spaces more ≡ false → is_all_spaces (after_word (after_word more)) ≡ true → (bad_f ≡ true) ⊎ ((bad_r ≡ true) ⊎ ((bad_xs ≡ true) ⊎ ((bad_c ≡ true) ⊎ (bad_ys ≡ true))))
-      → table_command text ≡ old.Refused refusal.BadCommand
+      → table_command text ≡ call.Refused refusal.BadCommand
   two_bad e f h =
       by_more false e ∙ end_true (after_word (after_word more)) read_two f
       ∙ two_is_bad (read_address (first_word text)) (read_address second_word) (read_rect third_word) (read_address (first_word more)) (read_rect (first_word (after_word more)))

@@ -1,8 +1,8 @@
 -- The commands of lines are those that they had.
-use Rattle.wi_cli.proofs.Vocabulary.{◌≡◌, ℕ, suc, zero, ◌-◌, ◌<◌, Bool, true, false, not, ◌==◌, ◌||◌, nat_lt, cond, List, [], ◌∷◌, ◌++◌, length, map, take, filter, filter_map, Option, Some, None, option_map, Result, ◌⊎◌, inl, inr, if◌then◌else◌, refl, sym, ap, ap₂, ◌∙◌, subst, arith, list_all, cons_option, byte, is_utf8, nat_tests, IsUtf8-from_is_utf8, is_utf8-from_IsUtf8, or_parts, not-false, ltb-false, le-ltb, both_ways, nil_from_length, or-true, or-false, read_address, AddressFault, raw_lines, onto_first, without_lf, is_whole, max_line, is_space, Bytes, is_all_spaces, CsvLine, csv_line, csv_command, Block, lines_of, blocks, is_complete, is_comment, text_command, line_command, command_with, block_command, spelled_command, whole_lines, Cell, IsWritten, Command, Csv, Unknown, Unreadable, form, line_text, IsWithin, IsGood, Asks, is_passed_over, IsCommand, was, read_any, asked, line_block, Splits, none, a_line, cut_short, before, HasCommands}
+use Rattle.wi_cli.proofs.Vocabulary.{◌≡◌, ℕ, suc, zero, ◌-◌, ◌<◌, Bool, true, false, not, ◌==◌, ◌||◌, nat_lt, cond, List, [], ◌∷◌, ◌++◌, length, map, take, filter, filter_map, Option, Some, None, option_map, Result, ◌⊎◌, inl, inr, if◌then◌else◌, refl, sym, ap, ap₂, ◌∙◌, subst, arith, list_all, cons_option, byte, is_utf8, nat_tests, IsUtf8-from_is_utf8, is_utf8-from_IsUtf8, or_parts, not-false, ltb-false, le-ltb, both_ways, nil_from_length, or-true, or-false, read_address, AddressFault, raw_lines, onto_first, without_lf, is_whole, max_line, is_space, Bytes, is_all_spaces, CsvLine, csv_line, csv_command, Block, lines_of, blocks, is_complete, is_comment, text_command, line_command, command_with, block_command, spelled_command, whole_lines, Cell, IsWritten, Command, Csv, Unknown, Unreadable, form, line_text, IsWithin, IsGood, Asks, is_passed_over, IsCommand, call_of, read_any, asked, line_block, Splits, none, a_line, cut_short, calls_of, HasCommands}
 use Rattle.std.proofs.Common.{option_to_list}
 use Rattle.wi_scenarios.specs.declared.refusal.Refusal.TheVariants as refusal
-use Rattle.wi_scenarios.specs.Step as old
+use Rattle.wi_cli.specs.Inner.Calls as call
 use Rattle.wi_cli.specs.Script.{none as no_commands, a_line as line_with, cut_short as line_cut}
 use Rattle.wi_cli.specs.Laws.{Takes}
 use Rattle.wi_cli.proofs.Ties.CsvLines.{IsRead, AsksOrNot, it_asks, it_asks_none, asks_or_not, takes, asks}
@@ -29,9 +29,9 @@ text_is text b e = ap (λ (v : Bool). if v then None else Some (spelled_command 
 -- ---- a line
 
 pub line_is : (line : Bytes) (b : Bool) → (nat_lt max_line (length (without_lf line)) || not (is_utf8 (line_text line))) ≡ b
-    → line_command (without_lf line) ≡ (if b then Some (old.Refused refusal.BadLine) else text_command (line_text line))
+    → line_command (without_lf line) ≡ (if b then Some (call.Refused refusal.BadLine) else text_command (line_text line))
 unfolding line_command
-line_is line b e = ap (λ (v : Bool). if v then Some (old.Refused refusal.BadLine) else text_command (line_text line)) e
+line_is line b e = ap (λ (v : Bool). if v then Some (call.Refused refusal.BadLine) else text_command (line_text line)) e
 
 pub good : (line : Bytes) → (nat_lt max_line (length (without_lf line)) || not (is_utf8 (line_text line))) ≡ false → IsGood line
 good line e = (ltb-false _ _ (or_parts _ _ e).0, IsUtf8-from_is_utf8 (line_text line) (not-false _ (or_parts _ _ e).1))
@@ -57,16 +57,16 @@ plain_line line taken e = ap (λ (x : Option CsvLine). command_with x (line_bloc
 
 -- one that does, by what it was read as
 pub csv_line_is : (line : Bytes) (taken : List Bytes) (force : Bool) (o : Option Cell) (n : ℕ) → IsRead force o n (csv_line (without_lf line)) → (b : Bool) → is_utf8 (line_text line) ≡ b
-    → block_command (line_block line taken) ≡ Some (if b then csv_command force (read_any o) taken (n - length taken) else old.Refused refusal.BadLine)
+    → block_command (line_block line taken) ≡ Some (if b then csv_command force (read_any o) taken (n - length taken) else call.Refused refusal.BadLine)
 csv_line_is line taken force o n r b e =
     let many : asked line ≡ n = ap lines_of r.1 in
     ap (λ (x : Option CsvLine). command_with x (line_block line taken)) r.1
-    ∙ ap (λ (v : Bool). Some (if v then csv_command force (read_address r.0) taken (asked line - length taken) else old.Refused refusal.BadLine)) e
-    ∙ ap₂ (λ (a : Result ℕ AddressFault) (k : ℕ). Some (if b then csv_command force a taken (k - length taken) else old.Refused refusal.BadLine)) r.2 many
+    ∙ ap (λ (v : Bool). Some (if v then csv_command force (read_address r.0) taken (asked line - length taken) else call.Refused refusal.BadLine)) e
+    ∙ ap₂ (λ (a : Result ℕ AddressFault) (k : ℕ). Some (if b then csv_command force a taken (k - length taken) else call.Refused refusal.BadLine)) r.2 many
 
 -- a line with what it takes has a command by the new reading, which is the one that it had
 abbrev pub HasCommand : Bytes → List Bytes → Type 0
-HasCommand line taken = (o : Option Command) × IsCommand line taken o × (block_command (line_block line taken) ≡ option_map was o)
+HasCommand line taken = (o : Option Command) × IsCommand line taken o × (block_command (line_block line taken) ≡ option_map call_of o)
 
 module _ (line : Bytes) (taken : List Bytes) where
   -- a line that asks for data lines
@@ -86,8 +86,8 @@ module _ (line : Bytes) (taken : List Bytes) where
     no_form g p plain_none c h = plain_none c refl h
 
     text_has : IsGood line → is_passed_over (line_text line) ≡ false → block_command (line_block line taken) ≡ Some (spelled_command (line_text line)) → Reads (line_text line) → HasCommand line taken
-    text_has g p e (spells c is h) = (Some c, as_command line taken c is g h fits, e ∙ ap (λ (x : old.Call). Some x) (same_form (line_text line) c is h))
-    text_has g p e (spells_none nothing bad) = (Some Unknown, (g, p, no_form g p (none_written (line_text line) nothing)), e ∙ ap (λ (x : old.Call). Some x) bad)
+    text_has g p e (spells c is h) = (Some c, as_command line taken c is g h fits, e ∙ ap (λ (x : call.Call). Some x) (same_form (line_text line) c is h))
+    text_has g p e (spells_none nothing bad) = (Some Unknown, (g, p, no_form g p (none_written (line_text line) nothing)), e ∙ ap (λ (x : call.Call). Some x) bad)
 
     by_line : (b : Bool) → (nat_lt max_line (length (without_lf line)) || not (is_utf8 (line_text line))) ≡ b → (p : Bool) → is_passed_over (line_text line) ≡ p → HasCommand line taken
     by_line true e p f = (Some Unreadable, not_good line e, plain_line line taken plain ∙ line_is line true e)
@@ -106,9 +106,9 @@ module _ (line : Bytes) (taken : List Bytes) where
 
 -- ---- lines
 
-pub onto_was : (o : Option Command) (cs : List Command) → cons_option (option_map was o) (map was cs) ≡ map was (option_to_list o ++ cs)
-onto_was None cs = refl
-onto_was (Some c) cs = refl
+pub onto_calls : (o : Option Command) (cs : List Command) → cons_option (option_map call_of o) (map call_of cs) ≡ map call_of (option_to_list o ++ cs)
+onto_calls None cs = refl
+onto_calls (Some c) cs = refl
 
 taken_is : (line : Bytes) (taken : List Bytes) → Takes line (length taken) → Asks line (length taken) ⊎ ((taken ≡ []) × ((n : ℕ) → Asks line n → ⊥))
 taken_is line taken (inl h) = inl h
@@ -128,14 +128,14 @@ has_all lines bs (a_line line taken more cs same rest) =
     let k = has_command line taken (none_taken line taken same) in
     let r = has_all more cs rest in
     let some : Takes line (length taken) = subst (λ (n : ℕ). Takes line n) same (takes line) in
-    (option_to_list k.0 ++ r.0, line_with line taken more k.0 r.0 (taken_is line taken some) k.1 r.1, ap₂ cons_option k.2 r.2 ∙ onto_was k.0 r.0)
+    (option_to_list k.0 ++ r.0, line_with line taken more k.0 r.0 (taken_is line taken some) k.1 r.1, ap₂ cons_option k.2 r.2 ∙ onto_calls k.0 r.0)
 has_all lines bs (cut_short line taken short) =
     let k = has_command line taken (none_short line taken short) in
     (option_to_list k.0, line_cut line taken (asked line) k.0 (asks line (length taken) short) short k.1, last k.0 k.2)
   where
-    last : (o : Option Command) → block_command (line_block line taken) ≡ option_map was o → cons_option (block_command (line_block line taken)) [] ≡ map was (option_to_list o)
-    last None e = ap (λ (x : Option old.Call). cons_option x []) e
-    last (Some c) e = ap (λ (x : Option old.Call). cons_option x []) e
+    last : (o : Option Command) → block_command (line_block line taken) ≡ option_map call_of o → cons_option (block_command (line_block line taken)) [] ≡ map call_of (option_to_list o)
+    last None e = ap (λ (x : Option call.Call). cons_option x []) e
+    last (Some c) e = ap (λ (x : Option call.Call). cons_option x []) e
 
 pub complete : (line : Bytes) (taken : List Bytes) → asked line ≡ length taken → is_complete (line_block line taken) ≡ true
 complete line taken e = grind (arith, nat_tests)
@@ -152,7 +152,7 @@ has_whole lines bs (a_line line taken more cs same rest) =
       option_to_list k.0 ++ r.0,
       line_with line taken more k.0 r.0 (taken_is line taken some) k.1 r.1,
       ap (λ (b : Bool). filter_map block_command (cond b (line_block line taken ∷ filter is_complete cs) (filter is_complete cs))) (complete line taken same)
-          ∙ ap₂ cons_option k.2 r.2 ∙ onto_was k.0 r.0,
+          ∙ ap₂ cons_option k.2 r.2 ∙ onto_calls k.0 r.0,
     )
 has_whole lines bs (cut_short line taken short) =
     let k = has_command line taken (none_short line taken short) in (
@@ -222,6 +222,6 @@ taken_whole n bytes = whole_is (take n (raw_lines bytes)) (take_whole n (raw_lin
 
 -- ---- the commands of a script
 
-pub has_commands : (ended : Bool) (lines : List Bytes) → HasCommands ended lines (before ended lines)
+pub has_commands : (ended : Bool) (lines : List Bytes) → HasCommands ended lines (calls_of ended lines)
 has_commands true lines = has_all lines (blocks lines) (blocks_split lines)
 has_commands false lines = has_whole lines (blocks lines) (blocks_split lines)

@@ -1,13 +1,13 @@
 -- Lines have no other commands than those that they had.
-use Rattle.wi_cli.proofs.Vocabulary.{◌≡◌, ℕ, suc, ◌+◌, ◌-◌, ◌<◌, Bool, true, false, not, ◌==◌, ◌||◌, nat_lt, cond, List, [], ◌∷◌, ◌++◌, length, map, take, filter, filter_map, ◌⊎◌, inl, inr, Option, Some, None, option_map, if◌then◌else◌, refl, sym, ap, ap₂, ◌∙◌, subst, arith, codes, bytes_eq, append_assoc, append-nil, cons_option, prefix_len, before_first, byte, is_utf8, nat_tests, IsUtf8-from_is_utf8, is_utf8-from_IsUtf8, le-ltb, both_ways, without_lf, max_line, is_space, skip_spaces, first_word, after_word, Bytes, is_all_spaces, csv_text, csv_named, csv_command, Block, lines_of, blocks, blocks_from, is_complete, block_command, spelled_command, Cell, IsWritten, Command, Set, Clear, Fill, Csv, Scenario, Drop, Base, Use, As, Show, Export, Compare, Table, Formula, Changes, Unknown, Unreadable, form, line_text, IsGood, Asks, is_passed_over, IsCommand, was, read_any, asked, line_block, blocks_that_count, SameCommands}
+use Rattle.wi_cli.proofs.Vocabulary.{◌≡◌, ℕ, suc, ◌+◌, ◌-◌, ◌<◌, Bool, true, false, not, ◌==◌, ◌||◌, nat_lt, cond, List, [], ◌∷◌, ◌++◌, length, map, take, filter, filter_map, ◌⊎◌, inl, inr, Option, Some, None, option_map, if◌then◌else◌, refl, sym, ap, ap₂, ◌∙◌, subst, arith, codes, bytes_eq, append_assoc, append-nil, cons_option, prefix_len, before_first, byte, is_utf8, nat_tests, IsUtf8-from_is_utf8, is_utf8-from_IsUtf8, le-ltb, both_ways, without_lf, max_line, is_space, skip_spaces, first_word, after_word, Bytes, is_all_spaces, csv_text, csv_named, csv_command, Block, lines_of, blocks, blocks_from, is_complete, block_command, spelled_command, Cell, IsWritten, Command, Set, Clear, Fill, Csv, Scenario, Drop, Base, Use, As, Show, Export, Compare, Table, Formula, Changes, Unknown, Unreadable, form, line_text, IsGood, Asks, is_passed_over, IsCommand, call_of, read_any, asked, line_block, blocks_that_count, SameCommands}
 use Rattle.std.proofs.Common.{option_to_list}
 use Rattle.wi_scenarios.specs.declared.refusal.Refusal.TheVariants as refusal
-use Rattle.wi_scenarios.specs.Step as old
+use Rattle.wi_cli.specs.Inner.Calls as call
 use Rattle.wi_cli.specs.Script.{none as no_commands, a_line as line_with, cut_short as line_cut}
 use Rattle.wi_cli.specs.Laws.{Takes}
 use Rattle.wi_cli.proofs.Ties.OperandsRead.{no_word}
 use Rattle.wi_cli.proofs.Ties.CsvLines.{AsksOrNot, it_asks, it_asks_none, asks_or_not, asked_is, short_line, TextReads, text_or, text_read}
-use Rattle.wi_cli.proofs.Ties.LinesRead.{plain_line, csv_line_is, line_is, text_is, good, good_is, onto_was, complete, not_complete}
+use Rattle.wi_cli.proofs.Ties.LinesRead.{plain_line, csv_line_is, line_is, text_is, good, good_is, onto_calls, complete, not_complete}
 use Rattle.wi_cli.proofs.Ties.Texts.{is_plain, same_form, Reads, spells, spells_none, reads}
 
 -- ---- how many data lines
@@ -119,36 +119,36 @@ module _ (line : Bytes) (taken : List Bytes) where
   is_none g p (inr bad) = plain_is g bad.1 true p
 
   is_unknown : IsGood line → is_passed_over (line_text line) ≡ false → ((c : Command) → IsWritten (line_text line) (form c) → ⊥) → TextReads (line_text line) → Reads (line_text line)
-      → block_command (line_block line taken) ≡ Some (old.Refused refusal.BadCommand)
+      → block_command (line_block line taken) ≡ Some (call.Refused refusal.BadCommand)
   is_unknown g p nothing (inl f) r = absurd (nothing (Csv f.0 f.1 f.2 []) f.3)
   is_unknown g p nothing (inr bad) (spells c is h) = absurd (nothing c h)
-  is_unknown g p nothing (inr bad) (spells_none unread e) = plain_is g bad.1 false p ∙ ap (λ (x : old.Call). Some x) e
+  is_unknown g p nothing (inr bad) (spells_none unread e) = plain_is g bad.1 false p ∙ ap (λ (x : call.Call). Some x) e
 
-  is_unreadable : (IsGood line → ⊥) → AsksOrNot line → block_command (line_block line taken) ≡ Some (old.Refused refusal.BadLine)
+  is_unreadable : (IsGood line → ⊥) → AsksOrNot line → block_command (line_block line taken) ≡ Some (call.Refused refusal.BadLine)
   is_unreadable bad (it_asks force o n within h r) = by (is_utf8 (line_text line)) refl
     where
-      by : (b : Bool) → is_utf8 (line_text line) ≡ b → block_command (line_block line taken) ≡ Some (old.Refused refusal.BadLine)
+      by : (b : Bool) → is_utf8 (line_text line) ≡ b → block_command (line_block line taken) ≡ Some (call.Refused refusal.BadLine)
       by true e = absurd (bad (within, IsUtf8-from_is_utf8 (line_text line) e))
       by false e = csv_line_is line taken force o n r false e
   is_unreadable bad (it_asks_none nothing e) = by (nat_lt max_line (length (without_lf line)) || not (is_utf8 (line_text line))) refl
     where
-      by : (b : Bool) → (nat_lt max_line (length (without_lf line)) || not (is_utf8 (line_text line))) ≡ b → block_command (line_block line taken) ≡ Some (old.Refused refusal.BadLine)
+      by : (b : Bool) → (nat_lt max_line (length (without_lf line)) || not (is_utf8 (line_text line))) ≡ b → block_command (line_block line taken) ≡ Some (call.Refused refusal.BadLine)
       by true f = plain_line line taken e ∙ line_is line true f
       by false f = absurd (bad (good line f))
 
   is_csv : (force : Bool) (o : Option Cell) (n : ℕ) (lines : List Bytes) → IsGood line → IsWritten (line_text line) (form (Csv force o n [])) → lines ≡ taken
-      → block_command (line_block line taken) ≡ Some (was (Csv force o n lines))
+      → block_command (line_block line taken) ≡ Some (call_of (Csv force o n lines))
   is_csv force o n lines g h e =
       let r = text_read (line_text line) force o n h in
       csv_line_is line taken force o n (r.0, short_line line (le-ltb _ _ g.0) ∙ r.1, r.2) true (is_utf8-from_IsUtf8 (line_text line) g.1)
       ∙ ap (λ (ls : List Bytes). Some (csv_command force (read_any o) ls (n - length ls))) (sym e)
 
-  is_plain_one : (c : Command) → is_plain c ≡ true → IsGood line → IsWritten (line_text line) (form c) → block_command (line_block line taken) ≡ Some (was c)
+  is_plain_one : (c : Command) → is_plain c ≡ true → IsGood line → IsWritten (line_text line) (form c) → block_command (line_block line taken) ≡ Some (call_of c)
   is_plain_one c p g h =
       let a = apart (line_text line) c p h in
-      plain_is g a.no_csv false a.read ∙ ap (λ (x : old.Call). Some x) (same_form (line_text line) c p h)
+      plain_is g a.no_csv false a.read ∙ ap (λ (x : call.Call). Some x) (same_form (line_text line) c p h)
 
-  pub one_command : (o : Option Command) → IsCommand line taken o → block_command (line_block line taken) ≡ option_map was o
+  pub one_command : (o : Option Command) → IsCommand line taken o → block_command (line_block line taken) ≡ option_map call_of o
   one_command None h = is_none h.0 h.1 (text_or (line_text line))
   one_command (Some Unreadable) h = is_unreadable h (asks_or_not line)
   one_command (Some Unknown) h = is_unknown h.0 h.1 h.2 (text_or (line_text line)) (reads (line_text line))
@@ -194,7 +194,7 @@ block_short line taken h = short_of line [] taken (asked line) h
 
 -- ---- lines
 
-onto_none : (o : Option Command) → cons_option (option_map was o) [] ≡ map was (option_to_list o)
+onto_none : (o : Option Command) → cons_option (option_map call_of o) [] ≡ map call_of (option_to_list o)
 onto_none None = refl
 onto_none (Some c) = refl
 
@@ -209,10 +209,10 @@ same_commands ended lines cs (line_with line taken more o ds takes is rest) =
     let many : asked line ≡ length taken = is_asked line (length taken) (are_taken line taken takes) in
     ap (λ (bs : List Block). filter_map block_command (blocks_that_count ended bs)) (block_filled line taken more many)
     ∙ ap (filter_map block_command) (kept_one ended (line_block line taken) (blocks more) (complete line taken many))
-    ∙ ap₂ cons_option (one_command line taken o is) (same_commands ended more ds rest) ∙ onto_was o ds
+    ∙ ap₂ cons_option (one_command line taken o is) (same_commands ended more ds rest) ∙ onto_calls o ds
 same_commands true lines cs (line_cut line taken n o asks short is) =
     let less : length taken < asked line = subst (λ (k : ℕ). length taken < k) (sym (asked_is line n asks)) short in
-    ap (filter_map block_command) (block_short line taken less) ∙ ap (λ (x : Option old.Call). cons_option x []) (one_command line taken o is) ∙ onto_none o
+    ap (filter_map block_command) (block_short line taken less) ∙ ap (λ (x : Option call.Call). cons_option x []) (one_command line taken o is) ∙ onto_none o
 same_commands false lines cs (line_cut line taken n o asks short is) =
     let less : length taken < asked line = subst (λ (k : ℕ). length taken < k) (sym (asked_is line n asks)) short in
     ap (λ (bs : List Block). filter_map block_command (filter is_complete bs)) (block_short line taken less)

@@ -1,11 +1,13 @@
 -- The step of `table`, with one input and with two.
-use Rattle.wi_cli.proofs.Vocabulary.{◌≡◌, ◌<◌, ◌*◌, ℕ, min, max, Bool, true, false, not, ◌||◌, ◌&&◌, ◌==◌, nat_lt, List, [], ◌∷◌, Option, Some, None, Result, if◌then◌else◌, refl, sym, ap, ◌∙◌, subst, arith, nat_tests, list_any, result_err, or_parts, both_ways, or-false, Area, columns, row_of, column_of, size_of, AddressFault, Shape, row_of_place, column_of_place, State, max_area, current_replacements, table_of, is_column, is_row, of_operand, worse, line_fault, unless_refused, table_of_one, table_of_two, Cell, Corners, is_outside, address, area, Bytes, Command, Table, Cause, BadCommand, Outside, TooLarge, NoScenario, Answer, SameStep, read_by, read_cell, read_area, was}
+use Rattle.wi_cli.proofs.Vocabulary.{◌≡◌, ◌<◌, ◌*◌, ℕ, min, max, Bool, true, false, not, ◌||◌, ◌&&◌, ◌==◌, nat_lt, List, [], ◌∷◌, Option, Some, None, Result, if◌then◌else◌, refl, sym, ap, ◌∙◌, subst, arith, nat_tests, list_any, result_err, or_parts, both_ways, or-false, Area, columns, row_of, column_of, size_of, AddressFault, Shape, row_of_place, column_of_place, State, max_area, is_column, is_row, of_operand, worse, line_fault, unless_refused, table_of_one, table_of_two, Cell, Corners, is_outside, address, area, Command, Table, BadCommand, Answer, read_by, read_cell, read_area, call_of, Err}
 use Rattle.wi_values.specs.declared.address.AddressFault.TheVariants.{Outside as AtOutside}
 use Rattle.wi_scenarios.specs.declared.refusal.Refusal.TheVariants as refusal
-use Rattle.wi_scenarios.specs.Step as old
-use Rattle.wi_scenarios.proofs.CauseTests.{found, IsTested, never, is_large}
+use Rattle.wi_cli.specs.Inner.Calls as call
+use Rattle.wi_scenarios.specs.Inner.Placed.{IsTablePlaced}
+use Rattle.wi_scenarios.proofs.OperandLemmas.{placed_again, spanned_again}
+use Rattle.wi_scenarios.proofs.TableSteps.{table_answer, tabled, table_step, table_by}
 use Rattle.wi_cli.proofs.Ties.Looks.{once}
-use Rattle.wi_cli.proofs.Ties.Tests.{Picked, by_tests}
+use Rattle.wi_cli.proofs.Ties.Uniqueness.{HasStep, same_answers}
 
 -- ---- faults of operands, one after another
 
@@ -117,17 +119,14 @@ none_of false false true d e h = absurd (both_ways true h refl)
 none_of false false false true e h = absurd (both_ways true h refl)
 none_of false false false false e h = (refl, refl, refl, refl, (or_parts e false h).0)
 
-as_was : (s : State) (c : Command) (w : old.Call) (a : Answer) → was c ≡ w → old.IsCallStep s w a → old.IsCallStep s (was c) a
-as_was s c w a e h = subst (λ (x : old.Call). old.IsCallStep s x a) (sym e) h
+answered_so : (s : State) (c : Command) (w : call.Call) (a : Answer) → call_of c ≡ w → call.IsCallStep s w a → call.IsCallStep s (call_of c) a
+answered_so s c w a e h = subst (λ (x : call.Call). call.IsCallStep s x a) (sym e) h
 
 -- ---- the step
 
 module _ (s : State) (f r : Cell) (xs : Corners) (c : Cell) (ys : Corners) where
   abbrev pub table : Command
   table = Table f r xs (Some (c, ys))
-
-  abbrev done : State × Bytes
-  done = (s, table_of s.stored.sheet (current_replacements s) (address f) (address r) (area xs) (Some (address c, area ys)))
 
   abbrev pub outside_xs : Bool
   outside_xs = is_outside xs.0 || is_outside xs.1
@@ -141,8 +140,8 @@ module _ (s : State) (f r : Cell) (xs : Corners) (c : Cell) (ys : Corners) where
   abbrev pub out : Bool
   out = is_outside f || (is_outside r || (outside_xs || (is_outside c || (outside_ys || false))))
 
-  abbrev cells : ℕ
-  cells = size_of (area xs) * (size_of (area ys) * 1)
+  abbrev is_many : Bool
+  is_many = nat_lt max_area (size_of (area xs) * (size_of (area ys) * 1))
 
   abbrev faults : List (Option AddressFault)
   faults = result_err (read_cell f) ∷ result_err (read_cell r) ∷ line_fault is_column (read_area xs) ∷ result_err (read_cell c) ∷ line_fault is_row (read_area ys) ∷ []
@@ -173,33 +172,20 @@ module _ (s : State) (f r : Cell) (xs : Corners) (c : Cell) (ys : Corners) where
           ∙ ap (λ (k : Bool). p' || (q' || (k || (y || (z || false))))) d ∙ ap (λ (k : Bool). p' || (q' || (x' || (k || (z || false))))) e
           ∙ ap (λ (k : Bool). p' || (q' || (x' || (y' || (k || false))))) g
 
-  abbrev command : old.Call
+  abbrev command : call.Call
   command =
-      of_operand (read_cell f) (λ f. of_operand (read_cell r) (λ r. of_operand (read_area xs) (λ xs. of_operand (read_cell c) (λ c. of_operand (read_area ys) (λ ys. old.Table f r xs (Some (c, ys)))))))
+      of_operand (read_cell f) (λ f. of_operand (read_cell r) (λ r. of_operand (read_area xs) (λ xs. of_operand (read_cell c) (λ c. of_operand (read_area ys) (λ ys. call.Table f r xs (Some (c, ys)))))))
 
-  was_is : (o : Option AddressFault) → worst faults ≡ o → was table ≡ unless_refused o command
-  was_is o e =
+  call_is : (o : Option AddressFault) → worst faults ≡ o → call_of table ≡ unless_refused o command
+  call_is o e =
       ap (λ (y : Option AddressFault). unless_refused (worse (result_err (read_cell f)) (worse (result_err (read_cell r)) (worse (line_fault is_column (read_area xs)) (worse (result_err (read_cell c)) y)))) command)
       (last_one (line_fault is_row (read_area ys)))
       ∙ ap (λ (w : Option AddressFault). unless_refused w command) e
 
-  abbrev table_test : Cause → Bool
-  table_test BadCommand = bent
-  table_test Outside = out
-  table_test TooLarge = nat_lt max_area cells
-  table_test x = false
+  abbrev pub proper : call.Call
+  proper = call.Table (address f) (address r) (area xs) (Some (address c, area ys))
 
-  table_tested : (x : Cause) → IsTested s table table_test x
-  table_tested BadCommand = (λ e. e, λ h. h)
-  table_tested Outside = (λ e. e, λ h. h)
-  table_tested TooLarge = is_large _
-  table_tested NoScenario = (λ e. e, λ h. h)
-  table_tested x = never
-
-  abbrev pub proper : old.Call
-  proper = old.Table (address f) (address r) (area xs) (Some (address c, area ys))
-
-  -- as it was, where nothing is outside
+  -- its call, where nothing is outside
   command_is : out ≡ false → command ≡ proper
   command_is eo =
       let k = none_of (is_outside f) (is_outside r) outside_xs (is_outside c) outside_ys eo in
@@ -208,43 +194,47 @@ module _ (s : State) (f r : Cell) (xs : Corners) (c : Cell) (ys : Corners) where
       by : is_outside f ≡ false → is_outside r ≡ false → outside_xs ≡ false → is_outside c ≡ false → outside_ys ≡ false → command ≡ proper
       by ef er ex ec ey = rw (ef, er, ex, ec, ey) refl
 
-  good : (large : Bool) → bent ≡ false → out ≡ false → nat_lt max_area (size_of (area xs) * size_of (area ys)) ≡ large → old.IsCallStep s proper (found done (if large then Some TooLarge else None))
-  good large eb eo el =
+  -- its operands are of the sheet
+  all_placed : out ≡ false → IsTablePlaced (address f) (address r) (area xs) (Some (address c, area ys))
+  all_placed eo =
+      let k = none_of (is_outside f) (is_outside r) outside_xs (is_outside c) outside_ys eo in
+      record { formula_cell = placed_again f k.0; input = placed_again r k.1; column = spanned_again xs k.2; second = (placed_again c k.3, spanned_again ys k.4) }
+
+  good : bent ≡ false → out ≡ false → call.IsCallStep s proper (table_answer false false is_many (tabled s (address f) (address r) (area xs) (Some (address c, area ys))))
+  good eb eo =
       let k = none_of (is_outside f) (is_outside r) outside_xs (is_outside c) outside_ys eo in
       let bent_xs : Bool = not outside_xs && not (xs.0.column == xs.1.column) in
       let bent_ys : Bool = not outside_ys && not (ys.0.row == ys.1.row) in
-      by large el (column_is xs k.2 ∙ straight outside_xs (xs.0.column == xs.1.column) (or_parts bent_xs bent_ys eb).0 k.2)
-      (row_is ys k.4 ∙ straight outside_ys (ys.0.row == ys.1.row) (or_parts bent_xs bent_ys eb).1 k.4)
-    where
-      by : (large : Bool) → nat_lt max_area (size_of (area xs) * size_of (area ys)) ≡ large → is_column (area xs) ≡ true → is_row (area ys) ≡ true
-          → old.IsCallStep s proper (found done (if large then Some TooLarge else None))
-      by true el column row = rw (column, row, el) refl
-      by false el column row = rw (column, row, el) refl
+      let column : is_column (area xs) ≡ true = column_is xs k.2 ∙ straight outside_xs (xs.0.column == xs.1.column) (or_parts bent_xs bent_ys eb).0 k.2 in
+      let row : is_row (area ys) ≡ true = row_is ys k.4 ∙ straight outside_ys (ys.0.row == ys.1.row) (or_parts bent_xs bent_ys eb).1 k.4 in
+      table_by s (address f) (address r) (area xs) (Some (address c, area ys)) (all_placed eo) false is_many
+      (ap (λ (b : Bool). not b || not (is_row (area ys))) column ∙ ap not row)
+      (ap (λ (n : ℕ). nat_lt max_area (size_of (area xs) * n)) (once (size_of (area ys))))
 
-  twice : (b : Bool) → nat_lt max_area cells ≡ b → nat_lt max_area (size_of (area xs) * size_of (area ys)) ≡ b
-  twice b e = ap (λ (n : ℕ). nat_lt max_area (size_of (area xs) * n)) (once (size_of (area ys))) ∙ e
+  -- its call, by what is bent and what is outside
+  pub bent_call : bent ≡ true → call_of table ≡ call.Refused refusal.BadCommand
+  bent_call eb = call_is (Some Shape) (shape_first faults (shapes ∙ eb))
 
-  -- as it was, by what is bent and what is outside
-  pub was_bent : bent ≡ true → was table ≡ old.Refused refusal.BadCommand
-  was_bent eb = was_is (Some Shape) (shape_first faults (shapes ∙ eb))
+  pub outside_call : bent ≡ false → out ≡ true → call_of table ≡ call.Refused refusal.OutOfSheet
+  outside_call eb eo = call_is (Some AtOutside) (outside_next faults (shapes ∙ eb) (outs ∙ eo))
 
-  pub was_outside : bent ≡ false → out ≡ true → was table ≡ old.Refused refusal.OutOfSheet
-  was_outside eb eo = was_is (Some AtOutside) (outside_next faults (shapes ∙ eb) (outs ∙ eo))
+  pub proper_call : bent ≡ false → out ≡ false → call_of table ≡ proper
+  proper_call eb eo = call_is None (none_bad faults (shapes ∙ eb) (outs ∙ eo)) ∙ command_is eo
 
-  pub was_proper : bent ≡ false → out ≡ false → was table ≡ proper
-  was_proper eb eo = was_is None (none_bad faults (shapes ∙ eb) (outs ∙ eo)) ∙ command_is eo
+  by_operands : (b o : Bool) → bent ≡ b → out ≡ o → HasStep s table
+  by_operands true o eb eo a =
+      same_answers s table (call_of table) (Err refusal.BadCommand) (answered_so s table _ _ (bent_call eb) refl) (table_step s f r xs (Some (c, ys)) true o is_many eb eo refl) a
+  by_operands false true eb eo a =
+      same_answers s table (call_of table) (Err refusal.OutOfSheet) (answered_so s table _ _ (outside_call eb eo) refl)
+      (table_step s f r xs (Some (c, ys)) false true is_many eb eo refl) a
+  by_operands false false eb eo a =
+      same_answers s table (call_of table) (table_answer false false is_many (tabled s (address f) (address r) (area xs) (Some (address c, area ys))))
+      (answered_so s table _ _ (proper_call eb eo) (good eb eo)) (table_step s f r xs (Some (c, ys)) false false is_many eb eo refl) a
 
-  picked : (b o large : Bool) → bent ≡ b → out ≡ o → nat_lt max_area cells ≡ large → Picked s table_test (was table) done
-  picked true o large eb eo el = (Some BadCommand, rw eb refl, as_was s table _ _ (was_bent eb) refl)
-  picked false true large eb eo el = (Some Outside, rw (eb, eo) refl, as_was s table _ _ (was_outside eb eo) refl)
-  picked false false true eb eo el = (Some TooLarge, rw (eb, eo, el) refl, as_was s table _ _ (was_proper eb eo) (good true eb eo (twice true el)))
-  picked false false false eb eo el = (None, rw (eb, eo, el) refl, as_was s table _ _ (was_proper eb eo) (good false eb eo (twice false el)))
+  pub same_table_of_two : HasStep s table
+  same_table_of_two = by_operands bent out refl refl
 
-  pub same_table_of_two : SameStep s table
-  same_table_of_two =
-      by_tests s table table_test table_tested refl (λ q h. h) done (λ e. refl) (λ x y h k. h ∙ sym k) (was table) (picked bent out (nat_lt max_area cells) refl refl refl)
-
--- ---- one input, as it was
+-- ---- one input
 
 module _ (s : State) (f r : Cell) (xs : Corners) where
   abbrev one : Command
@@ -276,77 +266,69 @@ module _ (s : State) (f r : Cell) (xs : Corners) where
       by p q x p' q' x' a b d =
           ap (λ (k : Bool). k || (q || (x || false))) a ∙ ap (λ (k : Bool). p' || (k || (x || false))) b ∙ ap (λ (k : Bool). p' || (q' || (k || false))) d
 
-  abbrev one_command : old.Call
-  one_command = of_operand (read_cell f) (λ f. of_operand (read_cell r) (λ r. of_operand (read_area xs) (λ xs. old.Table f r xs None)))
+  abbrev one_command : call.Call
+  one_command = of_operand (read_cell f) (λ f. of_operand (read_cell r) (λ r. of_operand (read_area xs) (λ xs. call.Table f r xs None)))
 
-  one_was : (o : Option AddressFault) → worst one_faults ≡ o → was one ≡ unless_refused o one_command
-  one_was o e =
+  one_call : (o : Option AddressFault) → worst one_faults ≡ o → call_of one ≡ unless_refused o one_command
+  one_call o e =
       ap (λ (y : Option AddressFault). unless_refused (worse (result_err (read_cell f)) (worse (result_err (read_cell r)) y)) one_command) (last_one (line_fault is_column (read_area xs)))
       ∙ ap (λ (w : Option AddressFault). unless_refused w one_command) e
 
-  pub one_was_bent : one_bent ≡ true → was one ≡ old.Refused refusal.BadCommand
-  one_was_bent eb = one_was (Some Shape) (shape_first one_faults (one_shapes ∙ eb))
+  pub one_bent_call : one_bent ≡ true → call_of one ≡ call.Refused refusal.BadCommand
+  one_bent_call eb = one_call (Some Shape) (shape_first one_faults (one_shapes ∙ eb))
 
-  pub one_was_outside : one_bent ≡ false → one_out ≡ true → was one ≡ old.Refused refusal.OutOfSheet
-  one_was_outside eb eo = one_was (Some AtOutside) (outside_next one_faults (one_shapes ∙ eb) (one_outs ∙ eo))
+  pub one_outside_call : one_bent ≡ false → one_out ≡ true → call_of one ≡ call.Refused refusal.OutOfSheet
+  one_outside_call eb eo = one_call (Some AtOutside) (outside_next one_faults (one_shapes ∙ eb) (one_outs ∙ eo))
 
-  pub one_was_proper : one_bent ≡ false → one_out ≡ false → was one ≡ old.Table (address f) (address r) (area xs) None
-  one_was_proper eb eo =
-      one_was None (none_bad one_faults (one_shapes ∙ eb) (one_outs ∙ eo))
+  pub one_proper_call : one_bent ≡ false → one_out ≡ false → call_of one ≡ call.Table (address f) (address r) (area xs) None
+  one_proper_call eb eo =
+      one_call None (none_bad one_faults (one_shapes ∙ eb) (one_outs ∙ eo))
       ∙ by (or_parts _ _ eo).0 (or_parts _ _ (or_parts _ _ eo).1).0 (or_parts _ _ (or_parts _ _ (or_parts _ _ eo).1).1).0
     where
-      by : is_outside f ≡ false → is_outside r ≡ false → (is_outside xs.0 || is_outside xs.1) ≡ false → one_command ≡ old.Table (address f) (address r) (area xs) None
+      by : is_outside f ≡ false → is_outside r ≡ false → (is_outside xs.0 || is_outside xs.1) ≡ false → one_command ≡ call.Table (address f) (address r) (area xs) None
       by ef er ex = rw (ef, er, ex) refl
 
-  abbrev one_done : State × Bytes
-  one_done = (s, table_of s.stored.sheet (current_replacements s) (address f) (address r) (area xs) None)
+  abbrev one_many : Bool
+  one_many = nat_lt max_area (size_of (area xs) * 1)
 
-  abbrev one_test : Cause → Bool
-  one_test BadCommand = one_bent
-  one_test Outside = one_out
-  one_test TooLarge = nat_lt max_area (size_of (area xs) * 1)
-  one_test x = false
+  one_placed : one_out ≡ false → IsTablePlaced (address f) (address r) (area xs) None
+  one_placed eo = record {
+    formula_cell = placed_again f (or_parts _ _ eo).0;
+    input = placed_again r (or_parts _ _ (or_parts _ _ eo).1).0;
+    column = spanned_again xs (or_parts _ _ (or_parts _ _ (or_parts _ _ eo).1).1).0;
+    second = tt;
+  }
 
-  one_tested : (x : Cause) → IsTested s one one_test x
-  one_tested BadCommand = (λ e. e, λ h. h)
-  one_tested Outside = (λ e. e, λ h. h)
-  one_tested TooLarge = is_large _
-  one_tested NoScenario = (λ e. e, λ h. h)
-  one_tested x = never
-
-  one_good : (large : Bool) → one_bent ≡ false → one_out ≡ false → nat_lt max_area (size_of (area xs) * 1) ≡ large
-      → old.IsCallStep s (old.Table (address f) (address r) (area xs) None) (found one_done (if large then Some TooLarge else None))
-  one_good large eb eo el =
+  one_good : one_bent ≡ false → one_out ≡ false → call.IsCallStep s (call.Table (address f) (address r) (area xs) None) (table_answer false false one_many (tabled s (address f) (address r) (area xs) None))
+  one_good eb eo =
       let inside : (is_outside xs.0 || is_outside xs.1) ≡ false = (or_parts _ _ (or_parts _ _ (or_parts _ _ eo).1).1).0 in
-      by large el (column_is xs inside ∙ straight (is_outside xs.0 || is_outside xs.1) (xs.0.column == xs.1.column) eb inside)
-    where
-      by : (large : Bool) → nat_lt max_area (size_of (area xs) * 1) ≡ large → is_column (area xs) ≡ true
-          → old.IsCallStep s (old.Table (address f) (address r) (area xs) None) (found one_done (if large then Some TooLarge else None))
-      by true el column = rw (column, el) refl
-      by false el column = rw (column, el) refl
+      let column : is_column (area xs) ≡ true = column_is xs inside ∙ straight (is_outside xs.0 || is_outside xs.1) (xs.0.column == xs.1.column) eb inside in
+      table_by s (address f) (address r) (area xs) None (one_placed eo) false one_many (ap (λ (b : Bool). not b || false) column) refl
 
-  one_picked : (b o large : Bool) → one_bent ≡ b → one_out ≡ o → nat_lt max_area (size_of (area xs) * 1) ≡ large → Picked s one_test (was one) one_done
-  one_picked true o large eb eo el = (Some BadCommand, rw eb refl, as_was s one _ _ (one_was_bent eb) refl)
-  one_picked false true large eb eo el = (Some Outside, rw (eb, eo) refl, as_was s one _ _ (one_was_outside eb eo) refl)
-  one_picked false false true eb eo el = (Some TooLarge, rw (eb, eo, el) refl, as_was s one _ _ (one_was_proper eb eo) (one_good true eb eo el))
-  one_picked false false false eb eo el = (None, rw (eb, eo, el) refl, as_was s one _ _ (one_was_proper eb eo) (one_good false eb eo el))
+  one_by_operands : (b o : Bool) → one_bent ≡ b → one_out ≡ o → HasStep s one
+  one_by_operands true o eb eo a =
+      same_answers s one (call_of one) (Err refusal.BadCommand) (answered_so s one _ _ (one_bent_call eb) refl) (table_step s f r xs None true o one_many eb eo refl) a
+  one_by_operands false true eb eo a =
+      same_answers s one (call_of one) (Err refusal.OutOfSheet) (answered_so s one _ _ (one_outside_call eb eo) refl) (table_step s f r xs None false true one_many eb eo refl) a
+  one_by_operands false false eb eo a =
+      same_answers s one (call_of one) (table_answer false false one_many (tabled s (address f) (address r) (area xs) None)) (answered_so s one _ _ (one_proper_call eb eo) (one_good eb eo))
+      (table_step s f r xs None false false one_many eb eo refl) a
 
-  pub same_table : SameStep s one
-  same_table =
-      by_tests s one one_test one_tested refl (λ q h. h) one_done (λ e. refl) (λ x y h k. h ∙ sym k) (was one) (one_picked one_bent one_out (nat_lt max_area (size_of (area xs) * 1)) refl refl refl)
+  pub same_table : HasStep s one
+  same_table = one_by_operands one_bent one_out refl refl
 
 -- ---- operands of the wrong shape
 
 pub one_is_bad : (f r : Result ℕ AddressFault) (xs : Result Area AddressFault) → list_any is_shape (result_err f ∷ result_err r ∷ line_fault is_column xs ∷ []) ≡ true
-    → table_of_one f r xs ≡ old.Refused refusal.BadCommand
+    → table_of_one f r xs ≡ call.Refused refusal.BadCommand
 one_is_bad f r xs h =
-    let command : old.Call = of_operand f (λ f. of_operand r (λ r. of_operand xs (λ xs. old.Table f r xs None))) in
+    let command : call.Call = of_operand f (λ f. of_operand r (λ r. of_operand xs (λ xs. call.Table f r xs None))) in
     ap (λ (y : Option AddressFault). unless_refused (worse (result_err f) (worse (result_err r) y)) command) (last_one (line_fault is_column xs))
     ∙ ap (λ (w : Option AddressFault). unless_refused w command) (shape_first (result_err f ∷ result_err r ∷ line_fault is_column xs ∷ []) h)
 
 pub two_is_bad : (f r : Result ℕ AddressFault) (xs : Result Area AddressFault) (c : Result ℕ AddressFault) (ys : Result Area AddressFault)
-    → list_any is_shape (result_err f ∷ result_err r ∷ line_fault is_column xs ∷ result_err c ∷ line_fault is_row ys ∷ []) ≡ true → table_of_two f r xs c ys ≡ old.Refused refusal.BadCommand
+    → list_any is_shape (result_err f ∷ result_err r ∷ line_fault is_column xs ∷ result_err c ∷ line_fault is_row ys ∷ []) ≡ true → table_of_two f r xs c ys ≡ call.Refused refusal.BadCommand
 two_is_bad f r xs c ys h =
-    let command : old.Call = of_operand f (λ f. of_operand r (λ r. of_operand xs (λ xs. of_operand c (λ c. of_operand ys (λ ys. old.Table f r xs (Some (c, ys))))))) in
+    let command : call.Call = of_operand f (λ f. of_operand r (λ r. of_operand xs (λ xs. of_operand c (λ c. of_operand ys (λ ys. call.Table f r xs (Some (c, ys))))))) in
     ap (λ (y : Option AddressFault). unless_refused (worse (result_err f) (worse (result_err r) (worse (line_fault is_column xs) (worse (result_err c) y)))) command) (last_one (line_fault is_row ys))
     ∙ ap (λ (w : Option AddressFault). unless_refused w command) (shape_first (result_err f ∷ result_err r ∷ line_fault is_column xs ∷ result_err c ∷ line_fault is_row ys ∷ []) h)

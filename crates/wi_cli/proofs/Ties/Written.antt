@@ -1,8 +1,10 @@
 -- What a run has written comes of events.
-use Rattle.wi_cli.proofs.Vocabulary.{◌≡◌, List, [], ◌∷◌, ◌++◌, inl, inr, false, Err, refl, ap, ap₂, ◌∙◌, subst, false≢true, State, left_by, reply, MayAnswer, Bytes, Command, Replies, Answer, IsStep, was, Writes, MayHappen, AreEvents}
+use Rattle.wi_cli.proofs.Vocabulary.{◌≡◌, List, [], ◌∷◌, ◌++◌, inl, inr, false, Ok, Err, codes, refl, sym, ap, ap₂, ◌∙◌, subst, false≢true, State, left_by, reply, Bytes, Command, stale_cell, Replies, accepted, unserved, cell_named, Answer, IsStep, causes, Writes, MayHappen, AreEvents}
 use Rattle.wi_scenarios.specs.declared.refusal.Refusal.TheVariants as refusal
-use Rattle.wi_cli.proofs.Ties.Steps.{same_step}
-use Rattle.wi_cli.proofs.Ties.Replies.{same_reply}
+use Rattle.wi_scenarios.proofs.FirstCause.{first_holds}
+use Rattle.wi_cli.specs.Reply.{refused}
+use Rattle.wi_cli.proofs.Ties.Codes.{first_of}
+use Rattle.wi_cli.proofs.Ties.Replies.{told_is, no_memory, has_refusal}
 
 -- an answer of a command that has this reply and leaves this state
 record HasEvent (s : State) (c : Command) (told : Bytes) (t : State) : Type 0 where
@@ -12,11 +14,17 @@ record HasEvent (s : State) (c : Command) (told : Bytes) (t : State) : Type 0 wh
   left_is : t ≡ left_by s answer
 
 has_event : (s : State) (c : Command) (told : Bytes) (t : State) → Replies s c told t → HasEvent s c told t
-has_event s c told t h = by ((same_reply s c told t).1 h)
-  where
-    by : MayAnswer s (was c) told t → HasEvent s c told t
-    by (inl a) = record { answer = a.answer; happens = inl ((same_step s c a.answer).0 a.is_step); told_is = a.reply_is; left_is = a.state_is }
-    by (inr u) = record { answer = Err refusal.Memory; happens = inr refl; told_is = u.reply_is; left_is = u.state_is }
+has_event s c told t (accepted u records none does) = record { answer = Ok (u, records); happens = inl (none, does); told_is = refl; left_is = refl }
+has_event s c told t (refused x digits first) =
+    let f = first_of s c (x, digits) first in
+    let e = has_refusal s c x (first_holds s c causes x f.0) in
+    record {
+      answer = Err e.0;
+      happens = inl (x, f.0, e.1);
+      told_is = ap (λ (b : Bytes). codes "refused E" ++ b ++ cell_named x (stale_cell s c) ++ codes "\n") f.1 ∙ sym (told_is s c x e.0 e.1);
+      left_is = refl;
+    }
+has_event s c told t (unserved may) = record { answer = Err refusal.Memory; happens = inr refl; told_is = sym (no_memory s c); left_is = refl }
 
 pub are_events : (s t : State) (cs : List Command) (out : Bytes) → Writes false s cs out t → AreEvents s cs out t
 are_events s t [] out h = record { events = []; follow = tt; commands = refl; replies = h.0; left = h.1 }

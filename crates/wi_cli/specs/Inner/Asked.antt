@@ -1,6 +1,6 @@
 -- What a line asks for, as it is read.
 use Rattle.std.specs.Prelude.{◌≡◌, Bool, Option, Some, None}
-use Rattle.wi_scenarios.specs.Step.{Call}
+use Rattle.wi_cli.specs.Inner.Calls.{Call}
 use Rattle.wi_cli.specs.declared.line.Line.{Line}
 use Rattle.wi_cli.specs.declared.line.Line.TheVariants as read
 use Rattle.wi_cli.specs.Inner.CsvCommand.{CsvLine}

@@ -6,7 +6,7 @@ use Rattle.std.specs.Str.Parse.{digits_value}
 use Rattle.wi_values.specs.declared.address.AddressFault.{AddressFault}
 use Rattle.wi_values.specs.declared.address.AddressFault.TheVariants.{Shape, Outside}
 use Rattle.wi_scenarios.specs.declared.refusal.Refusal.TheVariants.{BadCommand, BadLine, OutOfSheet, CutShort}
-use Rattle.wi_scenarios.specs.Step.{Call, Csv, Refused, RefusedData}
+use Rattle.wi_cli.specs.Inner.Calls.{Call, Csv, Refused, RefusedData}
 use Rattle.wi_cli.specs.Lines.{without_lf, without_cr, max_line, first_word, after_word}
 use Rattle.wi_cli.specs.Inner.Operands.{is_all_spaces}
 

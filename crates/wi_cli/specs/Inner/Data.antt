@@ -7,8 +7,8 @@ use Rattle.wi_values.specs.declared.address.AddressFault.TheVariants.{Shape, Out
 use Rattle.wi_scenarios.specs.declared.refusal.Refusal.{Refusal}
 use Rattle.wi_scenarios.specs.declared.refusal.Refusal.TheVariants.{BadCommand, BadLine, OutOfSheet, CutShort}
 use Rattle.wi_scenarios.specs.State.{State}
-use Rattle.wi_scenarios.specs.Step.{Call, Csv}
-use Rattle.wi_scenarios.specs.Step as spell
+use Rattle.wi_cli.specs.Inner.Calls.{Call, Csv}
+use Rattle.wi_cli.specs.Inner.Calls as spell
 use Rattle.wi_cli.specs.declared.csv_line.CsvLine.{CsvLine as ReadCsv}
 use Rattle.wi_cli.specs.declared.data_lines.Held.{Held}
 use Rattle.wi_cli.specs.declared.data_lines.Held.TheVariants.{All, Lacking, TooLong}

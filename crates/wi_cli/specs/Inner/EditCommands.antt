@@ -6,7 +6,7 @@ use Rattle.wi_values.specs.Address.{Area}
 use Rattle.wi_values.specs.AddressReading.{read_address, read_rect}
 use Rattle.wi_values.specs.declared.address.AddressFault.{AddressFault}
 use Rattle.wi_scenarios.specs.declared.refusal.Refusal.TheVariants.{BadCommand}
-use Rattle.wi_scenarios.specs.Step.{Call, Set, Clear, Fill, Refused}
+use Rattle.wi_cli.specs.Inner.Calls.{Call, Set, Clear, Fill, Refused}
 use Rattle.wi_cli.specs.Lines.{first_word, after_word}
 use Rattle.wi_cli.specs.Inner.Operands.{at_end, of_operand, worse, unless_refused}
 

@@ -1,7 +1,7 @@
 -- The commands that show what a workbook holds.
 use Rattle.std.specs.Prelude.{ℕ, List}
 use Rattle.wi_values.specs.AddressReading.{read_address, read_rect}
-use Rattle.wi_scenarios.specs.Step.{Call, Show, Export, Changes, Compare, Formula}
+use Rattle.wi_cli.specs.Inner.Calls.{Call, Show, Export, Changes, Compare, Formula}
 use Rattle.wi_cli.specs.Lines.{first_word, after_word}
 use Rattle.wi_cli.specs.Inner.Operands.{at_end, of_operand, of_name, read_side}
 

@@ -8,7 +8,7 @@ use Rattle.wi_values.specs.declared.address.AddressFault.{AddressFault}
 use Rattle.wi_values.specs.declared.address.AddressFault.TheVariants.{Shape, Outside}
 use Rattle.wi_scenarios.specs.declared.refusal.Refusal.TheVariants.{BadCommand}
 use Rattle.wi_scenarios.specs.Answer.{operand_refusal}
-use Rattle.wi_scenarios.specs.Step.{Call, Refused}
+use Rattle.wi_cli.specs.Inner.Calls.{Call, Refused}
 use Rattle.wi_cli.specs.Lines.{is_space, first_word, after_word}
 
 -- no word is there

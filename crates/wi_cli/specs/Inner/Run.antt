@@ -4,7 +4,7 @@ use Rattle.std.specs.List.{concat}
 use Rattle.wi_scenarios.specs.declared.refusal.Refusal.TheVariants.{Memory}
 use Rattle.wi_scenarios.specs.State.{State}
 use Rattle.wi_scenarios.specs.Answer.{Answer}
-use Rattle.wi_scenarios.specs.Step.{Call, IsCallStep, CallMayLackMemory}
+use Rattle.wi_cli.specs.Inner.Calls.{Call, IsCallStep, CallMayLackMemory}
 use Rattle.wi_scenarios.specs.Events.{left_by}
 use Rattle.wi_cli.specs.Inner.Reply.{refused, reply}
 

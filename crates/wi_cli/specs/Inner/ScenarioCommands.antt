@@ -2,7 +2,7 @@
 use Rattle.std.specs.Prelude.{ℕ, List}
 use Rattle.wi_values.specs.AddressReading.{read_address}
 use Rattle.wi_values.specs.Name.{read_name}
-use Rattle.wi_scenarios.specs.Step.{Call, Scenario, Drop, Base, Use, As}
+use Rattle.wi_cli.specs.Inner.Calls.{Call, Scenario, Drop, Base, Use, As}
 use Rattle.wi_cli.specs.Lines.{first_word, after_word}
 use Rattle.wi_cli.specs.Inner.Operands.{of_operand, of_name, only_name, name_or_none}
 

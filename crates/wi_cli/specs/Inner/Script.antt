@@ -3,7 +3,7 @@ use Rattle.std.specs.Prelude.{ℕ, Bool, true, false, ◌||◌, ◌==◌, not, L
 use Rattle.std.specs.Str.{byte, bytes_eq, is_utf8}
 use Rattle.wi_values.specs.AddressReading.{read_address}
 use Rattle.wi_scenarios.specs.declared.refusal.Refusal.TheVariants.{BadLine}
-use Rattle.wi_scenarios.specs.Step.{Call, Refused}
+use Rattle.wi_cli.specs.Inner.Calls.{Call, Refused}
 use Rattle.wi_cli.specs.Lines.{raw_lines, without_lf, without_cr, is_whole, max_line, first_word, after_word}
 use Rattle.wi_cli.specs.Inner.Operands.{is_all_spaces}
 use Rattle.wi_cli.specs.Inner.EditCommands.{edit_command}

@@ -4,7 +4,7 @@ use Rattle.wi_values.specs.Name.{bytes_of}
 use Rattle.wi_values.specs.declared.name.Name.{Name}
 use Rattle.wi_scenarios.specs.declared.refusal.Refusal.{Refusal}
 use Rattle.wi_scenarios.specs.declared.refusal.Refusal.TheVariants.{Memory, BadCommand}
-use Rattle.wi_scenarios.specs.Step.{Call, Set, Clear, Fill, Scenario, Drop, Base, Use, As, Show, Export, Changes, Compare, Table, Formula, Refused}
+use Rattle.wi_cli.specs.Inner.Calls.{Call, Set, Clear, Fill, Scenario, Drop, Base, Use, As, Show, Export, Changes, Compare, Table, Formula, Refused}
 use Rattle.wi_cli.specs.declared.command.Command.TheVariants as read
 use Rattle.wi_cli.specs.declared.command.Command.{Command as ReadCommand}
 

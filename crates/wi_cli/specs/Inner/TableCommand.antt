@@ -4,7 +4,7 @@ use Rattle.std.specs.Result.{result_err}
 use Rattle.wi_values.specs.Address.{Area, is_column, is_row}
 use Rattle.wi_values.specs.AddressReading.{read_address, read_rect}
 use Rattle.wi_values.specs.declared.address.AddressFault.{AddressFault}
-use Rattle.wi_scenarios.specs.Step.{Call, Table}
+use Rattle.wi_cli.specs.Inner.Calls.{Call, Table}
 use Rattle.wi_cli.specs.Lines.{first_word, after_word}
 use Rattle.wi_cli.specs.Inner.Operands.{at_end, of_operand, line_fault, worse, unless_refused, is_all_spaces}
 

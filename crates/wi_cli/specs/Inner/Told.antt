@@ -3,7 +3,7 @@ use Rattle.std.specs.Prelude.{◌≡◌, ℕ, List, [], ◌++◌, Option, Some, 
 use Rattle.wi_scenarios.specs.declared.refusal.Refusal.{Refusal}
 use Rattle.wi_scenarios.specs.declared.refusal.Refusal.TheVariants.{Memory}
 use Rattle.wi_scenarios.specs.State.{State}
-use Rattle.wi_scenarios.specs.Step.{Call, IsCallStep, CallMayLackMemory}
+use Rattle.wi_cli.specs.Inner.Calls.{Call, IsCallStep, CallMayLackMemory}
 use Rattle.wi_cli.specs.declared.reply.Reply.{Reply}
 use Rattle.wi_cli.specs.declared.reply.Reply.TheVariants.{Passed, Done, Refused}
 use Rattle.wi_cli.specs.Inner.Reply.{refused, ok_line}

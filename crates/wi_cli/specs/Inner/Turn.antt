@@ -6,7 +6,7 @@ use Rattle.wi_cli.specs.declared.fault.RunFault.{RunFault}
 use Rattle.wi_cli.specs.declared.fault.RunFault.TheVariants.{Memory, Read, Write, ScriptLimit}
 use Rattle.wi_cli.specs.declared.reply.Reply.{Reply}
 use Rattle.wi_scenarios.specs.State.{State}
-use Rattle.wi_scenarios.specs.Step.{Call}
+use Rattle.wi_cli.specs.Inner.Calls.{Call}
 use Rattle.wi_cli.specs.Lines.{raw_lines}
 use Rattle.wi_cli.specs.Inner.Blocks.{Block, blocks, is_complete}
 use Rattle.wi_cli.specs.Inner.Front.{AppendsFront}

@@ -1,18 +1,19 @@
 -- What the commands that edit the sheet name and put.
-use Rattle.std.specs.Prelude.{◌≡◌, ◌+◌, ℕ, pos, ◌-ℤ◌, Bool, false, List, [], ◌∷◌, ◌++◌, map, filter, Option, Some, None}
+use Rattle.std.specs.Prelude.{◌≡◌, ◌+◌, ℕ, ℤ, pos, ◌-ℤ◌, Bool, false, List, [], ◌∷◌, ◌++◌, map, filter, Option, Some, None, option_map}
 use Rattle.std.specs.List.{AllZip, concat}
 use Rattle.std.specs.Map.{keys_of}
 use Rattle.wi_fraction.specs.Text.{Bytes}
 use Rattle.wi_values.specs.Address.{Area, is_within, cells_of, row_of, column_of}
 use Rattle.wi_parser.specs.declared.content.Content.{Content}
+use Rattle.wi_parser.specs.declared.content.Content.TheVariants.{Constant, Formula}
 use Rattle.wi_parser.specs.Contents.{IsContent}
 use Rattle.wi_parser.specs.Sheet.{Sheet, content_of}
+use Rattle.wi_parser.specs.Shift.{shifted}
 use Rattle.wi_csv.specs.Records.{recs}
 use Rattle.wi_import.specs.Fields.{Field, fields_from, areas_from}
 use Rattle.wi_import.specs.Imports.{IsChange}
 use Rattle.wi_store.specs.Store.{edited, without_empty}
 use Rattle.wi_scenarios.specs.State.{State}
-use Rattle.wi_scenarios.specs.Fill.{copied}
 use Rattle.wi_scenarios.specs.Commands.Operands.{Cell, address, area}
 use Rattle.wi_scenarios.specs.Commands.Command.{Command, Set, Clear, Fill, Csv}
 
@@ -34,6 +35,12 @@ named (Clear force rect) = area rect ∷ []
 named (Fill force at rect) = area rect ∷ []
 named (Csv force (Some at) n lines) = areas_from at.row at.column (recs (concat lines))
 named c = []
+
+-- the copy of a content so far down and to the right; none of a formula that can't be shifted so
+abbrev pub copied : ℤ → ℤ → Option Content → Option (Option Content)
+copied down right None = Some None
+copied down right (Some (Constant v)) = Some (Some (Constant v))
+copied down right (Some (Formula t)) = option_map (λ u. Some (Formula u)) (shifted down right t)
 
 -- a cell and what it gets: a content, or none
 abbrev pub Put : Type 0

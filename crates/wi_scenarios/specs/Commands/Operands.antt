@@ -1,5 +1,5 @@
 -- The operands of commands, whether the sheet has the cells or not.
-use Rattle.std.specs.Prelude.{ℕ, Bool, ◌||◌, nat_le, Option}
+use Rattle.std.specs.Prelude.{ℕ, Bool, ◌||◌, nat_le, Option, option_map}
 use Rattle.wi_fraction.specs.Text.{Bytes}
 use Rattle.wi_values.specs.Address.{Area, rows, columns, place, row_of, column_of, rect_of}
 
@@ -29,6 +29,10 @@ cell a = record { row = row_of a; column = column_of a }
 
 abbrev pub corners : Area → Corners
 corners r = (cell r.first, cell r.last)
+
+-- those of a table's second input and its row, where it has them
+abbrev pub second_input : Option (ℕ × Area) → Option (Cell × Corners)
+second_input second = option_map (λ y. (cell y.0, corners y.1)) second
 
 pub data Operand : Type 0 where
   WORD CONTENT NAME SESSION : Bytes → Operand

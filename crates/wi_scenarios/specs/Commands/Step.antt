@@ -1,10 +1,14 @@
 -- A step as the calls of a workbook tell it, which refuse by `Refusal`.
-use Rattle.std.specs.Prelude.{◌≡◌, ◌⊎◌, ℕ, List, [], ◌∷◌, map, Some, Ok, Err}
+use Rattle.std.specs.Prelude.{◌≡◌, ◌≤◌, ◌⊎◌, ℕ, Bool, List, [], ◌∷◌, length, map, Some, Ok, Err}
+use Rattle.std.specs.List.{All, concat}
+use Rattle.wi_fraction.specs.Text.{Bytes}
 use Rattle.wi_scenarios.specs.declared.refusal.Refusal.{Refusal}
 use Rattle.wi_scenarios.specs.declared.refusal.Refusal.TheVariants as refusal
 use Rattle.wi_scenarios.specs.State.{State}
 use Rattle.wi_scenarios.specs.Answer.{Answer}
-use Rattle.wi_scenarios.specs.Commands.Command.{Command}
+use Rattle.wi_scenarios.specs.Commands.DataLines.{max_line, without_lf}
+use Rattle.wi_scenarios.specs.Commands.Operands.{cell}
+use Rattle.wi_scenarios.specs.Commands.Command.{Command, Csv}
 use Rattle.wi_scenarios.specs.Commands.Causes.{Cause, BadLine, BadCommand, CutShort, Outside, TooLarge, NoScenario, InUse, TooMany, BadField, TooLong, OutOfSheet, NumberRange, TooDeep, Syntax, LeavesSheet, Stale, Loop, Full, EditLimit, order, Holds, stale_cell}
 use Rattle.wi_scenarios.specs.Commands.Does.{Does}
 
@@ -41,3 +45,13 @@ IsFirstOf s c (x ∷ xs) cause = (Holds s x c × (cause ≡ x)) ⊎ ((Holds s x 
 abbrev pub IsStep : State → Command → Answer → Type 0
 IsStep s c (Err e) = (cause : Cause) × IsFirstOf s c causes cause × Tells s c cause e
 IsStep s c (Ok done) = ((cause : Cause) → Holds s cause c → ⊥) × Does s c done
+
+-- A text is cut into these data lines, of which none is too long, and of those asked for none is missing.
+pub record AreDataLines (text : Bytes) (n : ℕ) (lines : List Bytes) : Type 0 where
+  pub joined : concat lines ≡ text
+  pub short : All (λ line. length (without_lf line) ≤ max_line) lines
+  pub come : n ≤ length lines
+
+-- the answer to `csv` with the data lines of a text, however it is cut
+abbrev pub IsImportStep : State → Bool → ℕ → Bytes → Answer → Type 0
+IsImportStep s force at text a = (n : ℕ) (lines : List Bytes) → AreDataLines text n lines → IsStep s (Csv force (Some (cell at)) n lines) a

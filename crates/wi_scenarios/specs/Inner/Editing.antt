@@ -11,7 +11,7 @@ use Rattle.wi_sessions.specs.Roster.{Roster, session_at, pending_of, vacant_of}
 use Rattle.wi_scenarios.specs.declared.refusal.Refusal.{Refusal}
 use Rattle.wi_scenarios.specs.declared.refusal.Refusal.TheVariants.{Memory}
 use Rattle.wi_scenarios.specs.declared.desk.Desk.{Desk}
-use Rattle.wi_scenarios.specs.Edits.{limit_of}
+use Rattle.wi_scenarios.specs.Inner.EditAnswer.{limit_of}
 
 -- the first cell named that is stale for the current session; an edit that is forced has none
 abbrev pub stale_on : Desk → Bool → List Area → Option ℕ

@@ -1,6 +1,6 @@
 use Rattle.wi_cli.proofs.Vocabulary.{ap, Book}
 use Rattle.wi_cli.proofs.ServeLemmas.{imported_again}
-use Rattle.wi_scenarios.specs.Step as spell
+use Rattle.wi_cli.specs.Inner.Calls as spell
 use Rattle.wi_cli.proofs.serve_csv.import_twice.Goals as goal
 
 pub returns-then-lacks_memory : goal.returns-then-lacks_memory

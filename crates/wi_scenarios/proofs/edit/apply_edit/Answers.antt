@@ -1,4 +1,4 @@
-use Rattle.wi_scenarios.proofs.Words.{◌≡◌, [], subst, sym, rules, keys_of, Serves, no_cause, edit_answer, AddsOnly, state_of, pending_in, IsSound, Desk}
+use Rattle.wi_scenarios.proofs.Words.{◌≡◌, [], subst, sym, rules, keys_of, Serves, edit_answer, AddsOnly, state_of, pending_in, IsSound, Desk}
 use Rattle.wi_scenarios.proofs.EditLemmas.{edit_lacks, same_log}
 use Rattle.wi_scenarios.proofs.edit.apply_edit.Goals as goal
 
@@ -9,7 +9,7 @@ edit_caught_up-requires g c =
 pub returns-in_err-catch_up-clause-step : goal.returns-in_err-catch_up-clause-step
 returns-in_err-catch_up-clause-step g c =
     let old = g.C.Calculator.stored c.args.calculator.now in
-    subst (λ (d : Desk). Serves (λ a. edit_answer (state_of old c.args.desk.now) c.args.force no_cause (record { named = c.args.named; contents = c.args.contents.now }) ≡ a) c.from_residual.result (state_of old c.args.desk.now) (state_of old d) [])
+    subst (λ (d : Desk). Serves (λ a. edit_answer (state_of old c.args.desk.now) c.args.force (record { named = c.args.named; contents = c.args.contents.now }) ≡ a) c.from_residual.result (state_of old c.args.desk.now) (state_of old d) [])
     (sym (same_log c.args.desk.now c.catch_up.new.self c.catch_up.ensures))
     (edit_lacks c.from_residual.result (state_of old c.args.desk.now) c.args.force (record { named = c.args.named; contents = c.args.contents.now }) c.from_residual.ensures.1)
 
@@ -27,7 +27,7 @@ pub returns-clause-step : goal.returns-clause-step
 returns-clause-step g c =
     let old = g.C.Calculator.stored c.args.calculator.now in
     let new = state_of (g.C.Calculator.stored c.edit_caught_up.new.calculator) c.edit_caught_up.new.desk in
-    subst (λ (d : Desk). Serves (λ a. edit_answer (state_of old d) c.args.force no_cause (record { named = c.args.named; contents = c.args.contents.now }) ≡ a) c.edit_caught_up.result (state_of old d) new [])
+    subst (λ (d : Desk). Serves (λ a. edit_answer (state_of old d) c.args.force (record { named = c.args.named; contents = c.args.contents.now }) ≡ a) c.edit_caught_up.result (state_of old d) new [])
     (same_log c.args.desk.now c.catch_up.new.self c.catch_up.ensures) c.edit_caught_up.ensures.step
 
 pub returns-clause-adds : goal.returns-clause-adds

@@ -1,7 +1,12 @@
 -- The end of the step of an edit: stale cells, the limits of the sheet, the edit.
-use Rattle.wi_cli.proofs.Vocabulary.{◌≡◌, ◌<◌, ◌≤◌, ℕ, Bool, true, false, nat_lt, nat_le, List, [], ◌∷◌, length, ◌⊎◌, inl, inr, Option, Some, None, Ok, Err, refl, sym, subst, arith, nat_tests, leb-true, ltb-true, Area, State, no_cause, edit_answer, stale_in, Bytes, Command, Put, Puts, is_forced, named, sheet_with, after_edit, Cause, Stale, Loop, Full, EditLimit, Holds, stale_cell, Does, Answer, IsStep, causes, IsFirstOf}
+use Rattle.wi_scenarios.proofs.Words.{◌≡◌, ◌<◌, ◌≤◌, ℕ, Bool, true, false, nat_lt, nat_le, List, [], ◌∷◌, length, ◌⊎◌, inl, inr, Option, Some, None, Ok, Err, refl, sym, subst, arith, nat_tests, leb-true, ltb-true, Area, State, Answer, edit_answer, stale_in}
 use Rattle.wi_store.specs.Store.{accepted}
 use Rattle.wi_scenarios.specs.declared.refusal.Refusal.TheVariants as refusal
+use Rattle.wi_scenarios.proofs.CommandWords.{Command, Put, Puts, is_forced, named, sheet_with, after_edit, Cause, BadLine, BadCommand, CutShort, Outside, Stale, Loop, Full, EditLimit, Holds, stale_cell, Does, IsStep, causes, IsFirstOf}
+
+-- an operand lies outside, and no cause holds that is answered before
+pub outside_first : (s : State) (c : Command) → (Holds s BadLine c → ⊥) → (Holds s BadCommand c → ⊥) → (Holds s CutShort c → ⊥) → Holds s Outside c → IsStep s c (Err refusal.OutOfSheet)
+outside_first s c line command come outside = (Outside, inr (line, inr (command, inr (come, inl (outside, refl)))), refl)
 
 -- the last causes of the order
 abbrev pub last : List Cause
@@ -17,7 +22,7 @@ module _ (s : State) (c : Command) (force : Bool) (areas : List Area) (puts : Li
     (forced : is_forced c ≡ force) (names : named c ≡ areas) (no_loop : Holds s Loop c → ⊥)
     (front : (x : Cause) → IsFirstOf s c last x → IsFirstOf s c causes x)
     (only : (x : Cause) → Holds s x c → Holds s Stale c ⊎ (Holds s Full c ⊎ Holds s EditLimit c))
-    (does : (done : State × Bytes) → (q : List Put) × Puts s c q × (done ≡ (after_edit s c q, [])) → Does s c done) where
+    (does : (done : State × List ℕ) → (q : List Put) × Puts s c q × (done ≡ (after_edit s c q, [])) → Does s c done) where
   stale_some : (at : ℕ) → stale_in s force areas ≡ Some at → Holds s Stale c × (stale_cell s c ≡ Some at)
   stale_some at h = by force forced h
     where
@@ -76,14 +81,14 @@ module _ (s : State) (c : Command) (force : Bool) (areas : List Area) (puts : Li
           by (inr (inr k)) = not_limited el k
 
   before : (o : Option ℕ) (f l : Bool) → stale_in s force areas ≡ o → nat_lt s.stored.limits.cells (length (sheet_with s puts)) ≡ f
-      → nat_le s.stored.limits.edits s.stored.edits ≡ l → edit_answer s force no_cause (record { named = areas; contents = puts }) ≡ answer_of o f l
+      → nat_le s.stored.limits.edits s.stored.edits ≡ l → edit_answer s force (record { named = areas; contents = puts }) ≡ answer_of o f l
   unfolding accepted
   before (Some at) f l eo ef el = rw eo refl
   before None true l eo ef el = rw (eo, ef) refl
   before None false true eo ef el = rw (eo, ef, el) refl
   before None false false eo ef el = rw (eo, ef, el, names) refl
 
-  pub edit_step : IsStep s c (edit_answer s force no_cause (record { named = areas; contents = puts }))
+  pub edit_step : IsStep s c (edit_answer s force (record { named = areas; contents = puts }))
   edit_step =
       let o = stale_in s force areas in
       let f = nat_lt s.stored.limits.cells (length (sheet_with s puts)) in

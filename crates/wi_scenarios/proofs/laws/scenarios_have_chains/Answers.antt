@@ -1,5 +1,5 @@
-use Rattle.wi_cli.proofs.Ties.Chains.{new_has_chains, keeps_chains, gives_chain}
-use Rattle.wi_cli.proofs.laws.scenarios_have_chains.Goals as goal
+use Rattle.wi_scenarios.proofs.ChainLemmas.{new_has_chains, keeps_chains, gives_chain}
+use Rattle.wi_scenarios.proofs.laws.scenarios_have_chains.Goals as goal
 
 pub returns-clause-new : goal.returns-clause-new
 returns-clause-new c = new_has_chains

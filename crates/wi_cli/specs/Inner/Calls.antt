@@ -1,4 +1,4 @@
--- What one call of a workbook does.
+-- What the readers of lines yield: a call of a workbook, with operands of the sheet, or a refusal.
 use Rattle.std.specs.Prelude.{◌≡◌, ℕ, Bool, false, List, Option, Err}
 use Rattle.wi_values.specs.Address.{Area}
 use Rattle.wi_sessions.specs.Sessions.{has_session}
@@ -6,13 +6,8 @@ use Rattle.wi_scenarios.specs.declared.refusal.Refusal.{Refusal}
 use Rattle.wi_scenarios.specs.State.{State}
 use Rattle.wi_scenarios.specs.Answer.{Answer, MayGrow}
 use Rattle.wi_scenarios.specs.Commands.Command as command
-use Rattle.wi_scenarios.specs.Commands.Operands.{cell, corners}
-use Rattle.wi_scenarios.specs.Commands.Step.{IsStep}
-use Rattle.wi_scenarios.specs.Set.{IsSetStep}
-use Rattle.wi_scenarios.specs.Clear.{clear_step}
-use Rattle.wi_scenarios.specs.Fill.{fill_step}
-use Rattle.wi_scenarios.specs.Csv.{IsCsvStep}
-use Rattle.wi_scenarios.specs.Table.{table_step}
+use Rattle.wi_scenarios.specs.Commands.Operands.{cell, corners, second_input}
+use Rattle.wi_scenarios.specs.Commands.Step.{IsStep, IsImportStep}
 
 -- A call, or a line that is refused whatever the state is: `Refused` before anything grows, `RefusedData` once its data
 -- lines are there. Edits say whether they are forced; scenarios and sessions are given by name, and no name is the
@@ -38,10 +33,10 @@ pub data Call : Type 0 where
 
 -- the call has this answer
 abbrev pub IsCallStep : State → Call → Answer → Type 0
-IsCallStep s (Set force at content) a = IsSetStep s force at content a
-IsCallStep s (Clear force area) a = clear_step s force area ≡ a
-IsCallStep s (Fill force from area) a = fill_step s force from area ≡ a
-IsCallStep s (Csv force at text) a = IsCsvStep s force at text a
+IsCallStep s (Set force at content) a = IsStep s (command.Set force (cell at) content) a
+IsCallStep s (Clear force area) a = IsStep s (command.Clear force (corners area)) a
+IsCallStep s (Fill force from area) a = IsStep s (command.Fill force (cell from) (corners area)) a
+IsCallStep s (Csv force at text) a = IsImportStep s force at text a
 IsCallStep s (Scenario name at content) a = IsStep s (command.Scenario name (cell at) content) a
 IsCallStep s (Drop name) a = IsStep s (command.Drop name) a
 IsCallStep s (Base name other) a = IsStep s (command.Base name other) a
@@ -51,7 +46,7 @@ IsCallStep s (Show area) a = IsStep s (command.Show (corners area)) a
 IsCallStep s (Export area) a = IsStep s (command.Export (corners area)) a
 IsCallStep s Changes a = IsStep s command.Changes a
 IsCallStep s (Compare first second area) a = IsStep s (command.Compare first second (corners area)) a
-IsCallStep s (Table f r xs second) a = table_step s f r xs second ≡ a
+IsCallStep s (Table f r xs second) a = IsStep s (command.Table (cell f) (cell r) (corners xs) (second_input second)) a
 IsCallStep s (Formula at) a = IsStep s (command.Formula (cell at)) a
 IsCallStep s (Refused e) a = Err e ≡ a
 IsCallStep s (RefusedData e) a = Err e ≡ a

@@ -1,24 +1,30 @@
 -- That each scenario has a chain after every run.
-use Rattle.wi_cli.proofs.Vocabulary.{◌||◌, Bool, false, not, inl, inr, List, [], ◌∷◌, Option, Ok, Err, refl, sym, ap, subst, list_any, false_from_ne_true, not-false, or_parts, Stored, has_scenario, scenario_for, with_own, without_own, is_full, HasChains, is_name_of, is_base, lacks, would_loop, no_scenarios, is_chain, has_space, own_kept, based_kept, dropped_kept, State, state_over, left_by, Cell, address, Bytes, Command, Set, Clear, Fill, Csv, Scenario, Drop, Base, Use, As, Show, Export, Compare, Table, Formula, Changes, Unknown, Unreadable, Cause, NoScenario, InUse, TooMany, Loop, Holds, Does, Answer, IsStep, Event, MayHappen, KeepsChains, GivesChain}
+use Rattle.wi_scenarios.proofs.Words.{◌≡◌, ◌||◌, ℕ, Bool, false, not, inl, inr, List, [], ◌∷◌, Option, Ok, Err, refl, sym, ap, subst, list_any, Stored, has_scenario, scenario_for, with_own, without_own, is_full, is_name_of, is_base, lacks, would_loop, Refusal, State, state_over, left_by, Answer, Event, MayHappen, KeepsChains, GivesChain}
+use Rattle.std.proofs.lemmas.Bool.{false_from_ne_true, not-false, or_parts}
+use Rattle.wi_scenario_list.specs.Bases.{HasChains}
+use Rattle.wi_scenario_list.proofs.ChainsKept.{based_kept, dropped_kept, has_space, is_chain, no_scenarios, own_kept}
+use Rattle.wi_scenarios.proofs.CommandWords.{Command, Set, Clear, Fill, Csv, Scenario, Drop, Base, Use, As, Show, Export, Compare, Table, Formula, Changes, Unknown, Unreadable, Cell, address, Cause, NoScenario, InUse, TooMany, Loop, Holds, Does, IsStep}
 use Rattle.wi_scenario_list.specs.Scenarios as list
 use Rattle.wi_scenarios.specs.declared.refusal.Refusal.TheVariants as refusal
 use Rattle.wi_scenarios.proofs.ScenarioSteps.{is_in_use, drop_tested, base_tested}
-use Rattle.wi_cli.proofs.Ties.Events.{unlike}
+
+unlike : (done : State × List ℕ) (e : Refusal) → ◌≡◌ {A = Answer} (Ok done) (Err e) → ⊥
+unlike done e h = cc
 
 module _ (s : State) where
-  abbrev scenarios_in : State × Bytes → List list.Scenario
+  abbrev scenarios_in : State × List ℕ → List list.Scenario
   scenarios_in done = done.0.scenarios
 
   -- what is left unchanged, or has become these
   abbrev AreKept : List list.Scenario → Type 0
   AreKept xs = HasChains s.scenarios → HasChains xs
 
-  own_less : (name : Bytes) (at : Cell) → ((x : Cause) → Holds s x (Scenario name at []) → ⊥)
+  own_less : (name : List ℕ) (at : Cell) → ((x : Cause) → Holds s x (Scenario name at []) → ⊥)
       → AreKept (list.with_scenario s.scenarios (without_own (scenario_for s.scenarios name) (address at)))
   own_less name at free k =
       own_kept s.scenarios name (without_own (scenario_for s.scenarios name) (address at)) k refl refl (λ missing. absurd (free NoScenario (ap (λ (b : Bool). not b || false) missing)))
 
-  based_anew : (name : Bytes) (other : Option Bytes) → ((x : Cause) → Holds s x (Base name other) → ⊥)
+  based_anew : (name : List ℕ) (other : Option (List ℕ)) → ((x : Cause) → Holds s x (Base name other) → ⊥)
       → AreKept (list.with_scenario s.scenarios (record (scenario_for s.scenarios name) { base = other }))
   based_anew name other free k =
       let there = or_parts (not (has_scenario s.scenarios name)) (lacks s.scenarios other)
@@ -26,12 +32,12 @@ module _ (s : State) where
       based_kept s.scenarios name other k (not-false (has_scenario s.scenarios name) there.0) there.1
       (false_from_ne_true (would_loop s.scenarios name other) (λ e. free Loop ((base_tested s name other Loop).0 e)))
 
-  dropped : (name : Bytes) → ((x : Cause) → Holds s x (Drop name) → ⊥) → AreKept (list.without_scenario s.scenarios name)
+  dropped : (name : List ℕ) → ((x : Cause) → Holds s x (Drop name) → ⊥) → AreKept (list.without_scenario s.scenarios name)
   dropped name free k =
       dropped_kept s.scenarios name k
       (or_parts (list_any (λ x. is_name_of name x.scenario) s.sessions) (is_base s.scenarios name) (false_from_ne_true (is_in_use s name) (λ e. free InUse ((drop_tested s name InUse).0 e)))).1
 
-  kept : (c : Command) (done : State × Bytes) → ((x : Cause) → Holds s x c → ⊥) → Does s c done → AreKept (scenarios_in done)
+  kept : (c : Command) (done : State × List ℕ) → ((x : Cause) → Holds s x c → ⊥) → Does s c done → AreKept (scenarios_in done)
   kept (Set force at text) done free h k = subst HasChains (sym (ap scenarios_in h.2)) k
   kept (Clear force rect) done free h k = subst HasChains (sym (ap scenarios_in h.2)) k
   kept (Fill force at rect) done free h k = subst HasChains (sym (ap scenarios_in h.2)) k
@@ -66,5 +72,5 @@ pub keeps_chains : (s : State) (es : List (Event Command)) → KeepsChains s es
 keeps_chains s [] k run = k
 keeps_chains s (e ∷ es) k run = keeps_chains (left_by s e.answer) es (kept_by s e.command e.answer run.0 k) run.1
 
-pub gives_chain : (s : State) (name : Option Bytes) → GivesChain s name
+pub gives_chain : (s : State) (name : Option (List ℕ)) → GivesChain s name
 gives_chain s name k = is_chain s.scenarios name k

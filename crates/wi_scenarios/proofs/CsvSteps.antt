@@ -1,0 +1,199 @@
+-- The step of `csv`, by what its body finds.
+use Rattle.wi_scenarios.proofs.Words.{◌≡◌, ◌∙◌, ◌<◌, ◌≤◌, ℕ, Bool, true, false, ◌==◌, List, [], ◌∷◌, length, map, ◌⊎◌, inl, inr, Option, Some, Ok, Err, Result, if◌then◌else◌, refl, sym, ap, subst, arith, list_any, get_or, All-map, or-false, Any, both_ways, Area, Content, ImportFault, Field, fields_at, record_areas_at, AreChanges, IsFault, no_other, one_list, State, max_area, Answer, import_refusal, edit_answer, ◌-◌, None, nat_lt, nat_tests, Any-weaker, Any-from_list_any, list_any-from_Any, some_import}
+use Rattle.std.specs.List.{All, concat}
+use Rattle.std.specs.Str.{byte, IsUtf8}
+use Rattle.wi_values.specs.Imported.{IsImported}
+use Rattle.wi_import.specs.Fields.{IsInside}
+use Rattle.wi_import.specs.Imports.{IsImport, bad_field, too_long, out_of_sheet}
+use Rattle.wi_import.specs.declared.fault.ImportFault.TheVariants as import
+use Rattle.wi_scenarios.specs.declared.refusal.Refusal.TheVariants as refusal
+use Rattle.wi_scenarios.specs.Commands.DataLines.{max_line, without_lf}
+use Rattle.wi_scenarios.specs.Commands.Step.{AreDataLines, IsImportStep}
+use Rattle.wi_scenarios.proofs.CommandWords.{Command, Csv, form, Cell, is_outside, cell, Put, Puts, fields, named, after_edit, Cause, BadLine, BadCommand, CutShort, Outside, TooLarge, NoScenario, BadField, TooLong, OutOfSheet, NumberRange, TooDeep, Syntax, LeavesSheet, Stale, Full, EditLimit, Holds, lies_outside, is_missing, size, Does, IsStep, causes, IsFirstOf}
+use Rattle.wi_scenarios.proofs.EditSteps.{outside_first, last, edit_step}
+
+-- what an import comes to: what cells get, or a fault
+abbrev pub ImportOutcome : Type 0
+ImportOutcome = Result (List (ℕ × Option Content)) ImportFault
+
+-- the answer to an import that comes to this, into these rectangles
+abbrev pub csv_answer : State → Bool → List Area → ImportOutcome → Answer
+csv_answer s force areas (Ok puts) = edit_answer s force (record { named = areas; contents = puts })
+csv_answer s force areas (Err e) = Err (import_refusal e)
+
+-- what holds of all isn't missing of some
+all_any : {X : Type 0} (P : X → Type 0) (xs : List X) → All P xs → Any (λ x. P x → ⊥) xs → ⊥
+all_any {X} P xs h k = k.4 (subst P k.3 (h k.0 k.1 k.2))
+
+-- ---- a text as data lines
+
+no_long : (lines : List (List ℕ)) → All (λ line. length (without_lf line) ≤ max_line) lines → Any (λ line. max_line < length (without_lf line)) lines → ⊥
+no_long lines h k =
+    let within : length (without_lf k.1) ≤ max_line = subst (λ (line : List ℕ). length (without_lf line) ≤ max_line) k.3 (h k.0 k.1 k.2) in
+    let above : max_line < length (without_lf k.1) = k.4 in
+    omega (arith, within, above)
+
+all_come : (n m : ℕ) → n ≤ m → m < n → ⊥
+all_come n m h k = omega (arith, h, k)
+
+-- each text is cut into its bytes
+abbrev pub one_by_one : List ℕ → List (List ℕ)
+one_by_one text = map (λ (b : ℕ). b ∷ []) text
+
+joined_again : (text : List ℕ) → concat (one_by_one text) ≡ text
+joined_again [] = refl
+joined_again (b ∷ bs) = ap (λ (xs : List ℕ). b ∷ xs) (joined_again bs)
+
+one_short : (b : ℕ) → length (without_lf (b ∷ [])) ≤ max_line
+one_short b = by (b == byte "\n")
+  where
+    by : (v : Bool) → length (if v then [] else b ∷ []) ≤ max_line
+    by true = omega arith
+    by false = omega arith
+
+pub some_lines : (text : List ℕ) → AreDataLines text 0 (one_by_one text)
+some_lines text = record {
+  joined = joined_again text;
+  short = All-map (λ (line : List ℕ). length (without_lf line) ≤ max_line) (λ (b : ℕ). b ∷ []) text (λ k d l. one_short (get_or text k d));
+  come = omega arith;
+}
+
+-- ---- the step
+
+module _ (s : State) (force : Bool) (c : Cell) (n : ℕ) (lines : List (List ℕ)) where
+  abbrev csv : Command
+  csv = Csv force (Some c) n lines
+
+  outside_is : (b : Bool) → list_any lies_outside (form (Csv b (Some c) n lines)) ≡ is_outside c
+  outside_is true = or-false (is_outside c)
+  outside_is false = or-false (is_outside c)
+
+  small : (b : Bool) → max_area < size (form (Csv b (Some c) n lines)) → ⊥
+  small true h = omega (arith, h)
+  small false h = omega (arith, h)
+
+  none_missing : (b : Bool) → list_any (is_missing s) (form (Csv b (Some c) n lines)) ≡ false
+  none_missing true = refl
+  none_missing false = refl
+
+  pub one_done : (x y : State × List ℕ) → Does s csv x → Does s csv y → x ≡ y
+  one_done x y h k =
+      let puts : h.0 ≡ k.0 = one_list (fields c lines) h.0 k.0 h.1 k.1 in
+      h.2 ∙ ap (λ (q : List Put). let d : State × List ℕ = (after_edit s csv q, []) in d) puts ∙ sym k.2
+
+  module _ (short : Holds s BadLine csv → ⊥) (come : Holds s CutShort csv → ⊥) where
+    csv_out : is_outside c ≡ true → IsStep s csv (Err refusal.OutOfSheet)
+    csv_out o = outside_first s csv short (λ k. k) come (outside_is force ∙ o)
+
+    module _ (o : is_outside c ≡ false) where
+      abbrev behind : List Cause
+      behind = BadField ∷ TooLong ∷ OutOfSheet ∷ NumberRange ∷ TooDeep ∷ Syntax ∷ LeavesSheet ∷ last
+
+      front : (x : Cause) → IsFirstOf s csv behind x → IsFirstOf s csv causes x
+      front x h =
+          inr (short, inr (λ k. k, inr (come, inr (λ k. both_ways _ (outside_is force ∙ o) k, inr (small force, inr (λ k. both_ways _ (none_missing force) k, inr (λ k. k, inr (λ k. k, h))))))))
+
+      module _ (puts : List Put) (are : AreChanges (fields c lines) puts) where
+        other : (e : ImportFault) → IsFault (fields c lines) e → ⊥
+        other e h =
+            let same : ◌≡◌ {A = ImportOutcome} (Ok puts) (Err e) = no_other (fields c lines) (Ok puts) (Err e) are h in
+            cc
+
+        no_bad : Any (λ f. IsUtf8 f.bytes → ⊥) (fields c lines) → ⊥
+        no_bad h = other import.BadField (bad_field _ h)
+
+        none_too_long : Any (λ f. IsImported f.bytes None) (fields c lines) → ⊥
+        none_too_long h = other import.TooLong (too_long _ are.texts h)
+
+        no_outside : Any (λ f. IsInside f → ⊥) (fields c lines) → ⊥
+        no_outside h = all_any IsInside (fields c lines) are.inside h
+
+        one_put : (q : List Put) → Puts s csv q → q ≡ puts
+        one_put q h = one_list (fields c lines) q puts h are.each
+
+        later : (x : Cause) → IsFirstOf s csv last x → IsFirstOf s csv causes x
+        later x h = front x (inr (no_bad, inr (none_too_long, inr (no_outside, inr (λ k. k, inr (λ k. k, inr (λ k. k, inr (λ k. k, h))))))))
+
+        only : (x : Cause) → Holds s x csv → Holds s Stale csv ⊎ (Holds s Full csv ⊎ Holds s EditLimit csv)
+        only BadLine h = absurd (short h)
+        only CutShort h = absurd (come h)
+        only Outside h = absurd (both_ways _ (outside_is force ∙ o) h)
+        only TooLarge h = absurd (small force h)
+        only NoScenario h = absurd (both_ways _ (none_missing force) h)
+        only BadField h = absurd (no_bad h)
+        only TooLong h = absurd (none_too_long h)
+        only OutOfSheet h = absurd (no_outside h)
+        only Stale h = inl h
+        only Full h = inr (inl h)
+        only EditLimit h = inr (inr h)
+        only x h = absurd h
+
+        importing : IsStep s csv (edit_answer s force (record { named = named csv; contents = puts }))
+        importing = edit_step s csv force (named csv) puts are.each one_put refl refl (λ h. h) later only (λ d h. h)
+
+      fault_is : (e : ImportFault) → IsFault (fields c lines) e → IsStep s csv (csv_answer s force (named csv) (Err e))
+      fault_is e (bad_field fs h) = (BadField, front BadField (inl (h, refl)), refl)
+      fault_is e (too_long fs texts h) = (TooLong, front TooLong (inr (all_any (λ (f : Field). IsUtf8 f.bytes) fs texts, inl (h, refl))), refl)
+      fault_is e (out_of_sheet fs texts none h) =
+          (OutOfSheet, front OutOfSheet (inr (all_any (λ (f : Field). IsUtf8 f.bytes) fs texts, inr (none_long none, inl (h, refl)))), refl)
+        where
+          none_long : All (λ f. IsImported f.bytes None → ⊥) (fields c lines) → Any (λ f. IsImported f.bytes None) (fields c lines) → ⊥
+          none_long none k = none k.0 k.1 k.2 (subst (λ (f : Field). IsImported f.bytes None) (sym k.3) k.4)
+
+      by_import : (r : ImportOutcome) → IsImport (fields c lines) r → IsStep s csv (csv_answer s force (named csv) r)
+      by_import (Ok puts) is = importing puts is
+      by_import (Err e) is = fault_is e is
+
+    pub csv_step : (out : Bool) → is_outside c ≡ out → (r : ImportOutcome) → IsImport (fields c lines) r → IsStep s csv (if out then Err refusal.OutOfSheet else csv_answer s force (named csv) r)
+    csv_step true o r is = csv_out o
+    csv_step false o r is = by_import o r is
+
+-- ---- any data lines
+
+-- a data line that is too long
+abbrev pub is_long : List ℕ → Bool
+is_long line = nat_lt max_line (length (without_lf line))
+
+pub long_lines : (lines : List (List ℕ)) → list_any is_long lines ≡ true → Any (λ line. max_line < length (without_lf line)) lines
+long_lines lines e = Any-weaker (λ x. is_long x ≡ true) (λ line. max_line < length (without_lf line)) lines (λ x h. above _ h) (Any-from_list_any is_long lines e)
+  where
+    above : (n : ℕ) → nat_lt max_line n ≡ true → max_line < n
+    above n h = grind (arith, nat_tests)
+
+pub no_long_line : (lines : List (List ℕ)) → list_any is_long lines ≡ false → Any (λ line. max_line < length (without_lf line)) lines → ⊥
+no_long_line lines e h = both_ways _ e (list_any-from_Any is_long lines (Any-weaker (λ line. max_line < length (without_lf line)) (λ x. is_long x ≡ true) lines (λ x h. below _ h) h))
+  where
+    below : (n : ℕ) → max_line < n → nat_lt max_line n ≡ true
+    below n h = grind (arith, nat_tests)
+
+pub cut : (n m : ℕ) → (n - m == 0) ≡ false → m < n
+cut n m e = grind (arith, nat_tests)
+
+pub not_cut : (n m : ℕ) → (n - m == 0) ≡ true → m < n → ⊥
+not_cut n m e h = grind (arith, nat_tests)
+
+-- a word that is no cell
+pub csv_bare : (s : State) (force : Bool) (n : ℕ) (lines : List (List ℕ)) → (a : Answer) × IsStep s (Csv force None n lines) a
+csv_bare s force n lines = by (list_any is_long lines) refl
+  where
+    by : (long : Bool) → list_any is_long lines ≡ long → (a : Answer) × IsStep s (Csv force None n lines) a
+    by true e = (Err refusal.BadLine, (BadLine, inl (long_lines lines e, refl), refl))
+    by false e = (Err refusal.BadCommand, (BadCommand, inr (no_long_line lines e, inl (tt, refl)), refl))
+
+pub csv_some : (s : State) (force : Bool) (c : Cell) (n : ℕ) (lines : List (List ℕ)) → (a : Answer) × IsStep s (Csv force (Some c) n lines) a
+csv_some s force c n lines = by (list_any is_long lines) (n - length lines == 0) refl refl
+  where
+    by : (long come : Bool) → list_any is_long lines ≡ long → (n - length lines == 0) ≡ come → (a : Answer) × IsStep s (Csv force (Some c) n lines) a
+    by true come el em = (Err refusal.BadLine, (BadLine, inl (long_lines lines el, refl), refl))
+    by false false el em = (Err refusal.CutShort, (CutShort, inr (no_long_line lines el, inr (λ h. h, inl (cut _ _ em, refl))), refl))
+    by false true el em =
+        let out = is_outside c in
+        let r = some_import (fields c lines) in
+        (if out then Err refusal.OutOfSheet else csv_answer s force (named (Csv force (Some c) n lines)) r.0, csv_step s force c n lines (no_long_line lines el) (not_cut _ _ em) out refl r.0 r.1)
+
+-- of a text
+pub csv_of : (s : State) (force : Bool) (at : ℕ) (text : List ℕ) (out : Bool) → is_outside (cell at) ≡ out → (r : ImportOutcome) → IsImport (fields_at at text) r
+    → IsImportStep s force at text (if out then Err refusal.OutOfSheet else csv_answer s force (record_areas_at at text) r)
+csv_of s force at text out o r is n lines are =
+    subst (λ (t : List ℕ). IsStep s (Csv force (Some (cell at)) n lines) (if out then Err refusal.OutOfSheet else csv_answer s force (record_areas_at at t) r)) are.joined
+    (csv_step s force (cell at) n lines (no_long lines are.short) (all_come n (length lines) are.come) out o r (subst (λ (t : List ℕ). IsImport (fields_at at t) r) (sym are.joined) is))

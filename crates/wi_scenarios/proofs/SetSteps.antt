@@ -1,0 +1,156 @@
+-- The step of `set`, by what its body finds.
+use Rattle.wi_scenarios.proofs.Words.{◌≡◌, ◌<◌, ℕ, Bool, true, false, ◌==◌, List, [], ◌∷◌, length, ◌⊎◌, inl, inr, Some, map, ◌++◌, Result, Ok, Err, if◌then◌else◌, refl, sym, ap, ◌∙◌, subst, arith, list_any, nat_tests, both_ways, Content, ParseFault, cell_area, State, max_area, Answer, parse_refusal, Edit, edit_answer}
+use Rattle.wi_parser.specs.Contents.{IsContent}
+use Rattle.wi_parser.specs.Inner.Answered.{HasFault, IsAnsweredAs, IsFirstFault, faults}
+use Rattle.wi_parser.proofs.ContentsOfTexts.{is_fault, one_content}
+use Rattle.wi_parser.specs.declared.fault.ParseFault.TheVariants as parse
+use Rattle.wi_scenarios.specs.declared.refusal.Refusal.TheVariants as refusal
+use Rattle.wi_scenarios.specs.Inner.Placed.{IsPlaced}
+use Rattle.wi_scenarios.proofs.CommandWords.{Command, Set, form, Cell, is_outside, address, cell, Put, Puts, after_edit, Cause, BadCommand, Outside, TooLarge, NoScenario, TooLong, OutOfSheet, NumberRange, TooDeep, Syntax, LeavesSheet, Stale, Full, EditLimit, Holds, lies_outside, is_missing, size, Does, IsStep, causes, IsFirstOf}
+use Rattle.wi_scenarios.proofs.EditSteps.{outside_first, last, edit_step}
+
+-- ---- answers
+
+-- the content that was read, into the cell
+abbrev pub set_edit : ℕ → Content → Edit
+set_edit at content = record { named = cell_area at ∷ []; contents = (at, Some content) ∷ [] }
+
+-- the answer to putting what was read into a cell
+abbrev pub content_answer : State → Bool → ℕ → Result Content ParseFault → Answer
+content_answer s force at (Ok content) = edit_answer s force (set_edit at content)
+content_answer s force at (Err e) = Err (parse_refusal e)
+
+-- the same, where the text is empty or not
+abbrev pub set_answer : State → Bool → ℕ → Bool → Result Content ParseFault → Answer
+set_answer s force at none r = if none then Err refusal.BadCommand else content_answer s force at r
+
+-- ---- the step
+
+module _ (s : State) (force : Bool) (c : Cell) (text : List ℕ) where
+  pub one_puts : (q p : List Put) → Puts s (Set force c text) q → Puts s (Set force c text) p → q ≡ p
+  one_puts q p h k =
+      h.2 ∙ ap (λ (x : Content). let ps : List Put = (address c, Some x) ∷ [] in ps) (one_content text k.0 h.0 k.1 h.1) ∙ sym k.2
+
+  pub one_done : (x y : State × List ℕ) → Does s (Set force c text) x → Does s (Set force c text) y → x ≡ y
+  one_done x y h k =
+      h.2 ∙ ap (λ (q : List Put). let d : State × List ℕ = (after_edit s (Set force c text) q, []) in d) (one_puts h.0 k.0 h.1 k.1) ∙ sym k.2
+
+module _ (s : State) (force : Bool) (c : Cell) (text : List ℕ) (inside : is_outside c ≡ false) where
+  abbrev set : Command
+  set = Set force c text
+
+  not_outside : (b : Bool) → list_any lies_outside (form (Set b c text)) ≡ false
+  not_outside true = rw inside refl
+  not_outside false = rw inside refl
+
+  small : (b : Bool) → max_area < size (form (Set b c text)) → ⊥
+  small true h = omega (arith, h)
+  small false h = omega (arith, h)
+
+  none_missing : (b : Bool) → list_any (is_missing s) (form (Set b c text)) ≡ false
+  none_missing true = refl
+  none_missing false = refl
+
+  -- the causes of the content, and those behind
+  abbrev behind : List Cause
+  behind = TooLong ∷ OutOfSheet ∷ NumberRange ∷ TooDeep ∷ Syntax ∷ LeavesSheet ∷ last
+
+  module _ (some : Holds s BadCommand set → ⊥) where
+    front : (x : Cause) → IsFirstOf s set behind x → IsFirstOf s set causes x
+    front x h =
+        inr (λ k. k, inr (some, inr (λ k. k, inr (λ k. both_ways _ (not_outside force) k, inr (small force, inr (λ k. both_ways _ (none_missing force) k, inr (λ k. k, inr (λ k. k, inr (λ k. k, h)))))))))
+
+    module _ (content : Content) (is : IsContent text content) (no_fault : (e : ParseFault) → HasFault text e → ⊥) where
+      put : Puts s set ((address c, Some content) ∷ [])
+      put = (content, is, refl)
+
+      one_put : (q : List Put) → Puts s set q → q ≡ (address c, Some content) ∷ []
+      one_put q h = one_puts s force c text q ((address c, Some content) ∷ []) h put
+
+      later : (x : Cause) → IsFirstOf s set last x → IsFirstOf s set causes x
+      later x h = front x (inr (
+        no_fault parse.TooLong,
+        inr (
+          no_fault parse.OutOfSheet,
+          inr (
+            no_fault parse.NumberRange,
+            inr (no_fault parse.TooDeep, inr (no_fault parse.Syntax, inr (λ k. k, h))),
+          ),
+        ),
+      ))
+
+      only : (x : Cause) → Holds s x set → Holds s Stale set ⊎ (Holds s Full set ⊎ Holds s EditLimit set)
+      only BadCommand h = absurd (some h)
+      only Outside h = absurd (both_ways _ (not_outside force) h)
+      only TooLarge h = absurd (small force h)
+      only NoScenario h = absurd (both_ways _ (none_missing force) h)
+      only TooLong h = absurd (no_fault parse.TooLong h)
+      only OutOfSheet h = absurd (no_fault parse.OutOfSheet h)
+      only NumberRange h = absurd (no_fault parse.NumberRange h)
+      only TooDeep h = absurd (no_fault parse.TooDeep h)
+      only Syntax h = absurd (no_fault parse.Syntax h)
+      only Stale h = inl h
+      only Full h = inr (inl h)
+      only EditLimit h = inr (inr h)
+      only x h = absurd h
+
+      putting : IsStep s set (edit_answer s force (set_edit (address c) content))
+      putting =
+          edit_step s set force (cell_area (address c) ∷ []) ((address c, Some content) ∷ []) put one_put refl refl (λ h. h) later only (λ d h. h)
+
+    -- the cause for a fault; memory is none, and `set` moves nothing
+    abbrev cause_of : ParseFault → Cause
+    cause_of parse.TooLong = TooLong
+    cause_of parse.OutOfSheet = OutOfSheet
+    cause_of parse.NumberRange = NumberRange
+    cause_of parse.TooDeep = TooDeep
+    cause_of parse.Syntax = Syntax
+    cause_of parse.Memory = LeavesSheet
+
+    same_fault : (e : ParseFault) → HasFault text e ↔ Holds s (cause_of e) set
+    same_fault parse.TooLong = (λ h. h, λ h. h)
+    same_fault parse.OutOfSheet = (λ h. h, λ h. h)
+    same_fault parse.NumberRange = (λ h. h, λ h. h)
+    same_fault parse.TooDeep = (λ h. h, λ h. h)
+    same_fault parse.Syntax = (λ h. h, λ h. h)
+    same_fault parse.Memory = (λ h. h, λ h. h)
+
+    first_of : (xs : List ParseFault) (e : ParseFault) → IsFirstFault text xs e → IsFirstOf s set (map cause_of xs ++ LeavesSheet ∷ last) (cause_of e)
+    first_of [] e h = absurd h
+    first_of (x ∷ xs) e (inl h) = inl ((same_fault x).0 h.0, ap cause_of h.1)
+    first_of (x ∷ xs) e (inr h) = inr (λ k. h.0 ((same_fault x).1 k), first_of xs e h.1)
+
+    -- by what the content is read as
+    by_content : (r : Result Content ParseFault) → IsAnsweredAs text r → IsStep s set (content_answer s force (address c) r)
+    by_content (Ok content) h = putting content h.0 h.1
+    by_content (Err parse.TooLong) h = (TooLong, front TooLong (first_of faults parse.TooLong h), refl)
+    by_content (Err parse.OutOfSheet) h = (OutOfSheet, front OutOfSheet (first_of faults parse.OutOfSheet h), refl)
+    by_content (Err parse.NumberRange) h = (NumberRange, front NumberRange (first_of faults parse.NumberRange h), refl)
+    by_content (Err parse.TooDeep) h = (TooDeep, front TooDeep (first_of faults parse.TooDeep h), refl)
+    by_content (Err parse.Syntax) h = (Syntax, front Syntax (first_of faults parse.Syntax h), refl)
+    by_content (Err parse.Memory) h = absurd (is_fault text faults parse.Memory h)
+
+-- an empty text
+pub set_none : (s : State) (force : Bool) (c : Cell) → IsStep s (Set force c []) (Err refusal.BadCommand)
+set_none s force c = (BadCommand, inr (λ h. h, inl (tt, refl)), refl)
+
+-- one that isn't, where the cell lies outside the sheet or not
+module _ (s : State) (force : Bool) (c : Cell) (b : ℕ) (bs : List ℕ) where
+  is_out : (f : Bool) → is_outside c ≡ true → list_any lies_outside (form (Set f c (b ∷ bs))) ≡ true
+  is_out true o = rw o refl
+  is_out false o = rw o refl
+
+  pub set_some : (out : Bool) → is_outside c ≡ out → (r : Result Content ParseFault) → IsAnsweredAs (b ∷ bs) r → IsStep s (Set force c (b ∷ bs)) (if out then Err refusal.OutOfSheet else content_answer s force (address c) r)
+  set_some true o r is = outside_first s (Set force c (b ∷ bs)) (λ h. h) (λ h. h) (λ h. h) (is_out force o)
+  set_some false o r is = by_content s force c (b ∷ bs) o (λ h. h) r is
+
+-- of a cell of the sheet
+pub set_placed : (s : State) (force : Bool) (a b : ℕ) (bs : List ℕ) → IsPlaced a → (r : Result Content ParseFault) → IsAnsweredAs (b ∷ bs) r → IsStep s (Set force (cell a) (b ∷ bs)) (content_answer s force a r)
+set_placed s force a b bs h r is =
+    subst (λ (x : ℕ). IsStep s (Set force (cell a) (b ∷ bs)) (content_answer s force x r)) h.again (set_some s force (cell a) b bs false h.inside r is)
+
+pub set_of : (s : State) (force : Bool) (a : ℕ) (text : List ℕ) → IsPlaced a → (r : Result Content ParseFault) → IsAnsweredAs text r → IsStep s (Set force (cell a) text) (set_answer s force a (length text == 0) r)
+set_of s force a [] h r is = set_none s force (cell a)
+set_of s force a (b ∷ bs) h r is =
+    let some : false ≡ (length (b ∷ bs) == 0) = grind (arith, nat_tests) in
+    subst (λ (none : Bool). IsStep s (Set force (cell a) (b ∷ bs)) (set_answer s force a none r)) some (set_placed s force a b bs h r is)
