@@ -1,4 +1,5 @@
--- A script's commands one after another: what the laws for these are told of them, a run as events, and each scenario's chain.
+-- A script's commands one after another: what the laws for these are told of them, a run as events, and each scenario's
+-- chain.
 use Rattle.std.specs.Prelude.{◌≡◌, List, [], ◌∷◌, map}
 use Rattle.std.specs.List.{flat_map}
 use Rattle.wi_scenarios.specs.State.{State}

@@ -40,8 +40,8 @@ pub fn lines_have_no_others()
         → SameCommands ended lines cs }
 {}
 
-/// What a run has written, where its sink doesn't fail, is the replies of events: of each command one of its answers. So what holds of events one after
-/// another holds of each run.
+/// What a run has written, where its sink doesn't fail, is the replies of events: of each command one of its answers.
+/// So what holds of events one after another holds of each run.
 #[tactic(auto, using(crate::proofs::Ties::Written::are_events))]
 pub fn runs_have_events()
     ensures { (s t : State) (cs : List Command) (out : Bytes) → Writes false s cs out t

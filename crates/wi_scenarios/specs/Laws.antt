@@ -1,4 +1,5 @@
--- What a command leaves, and what the laws of `Events` are told of commands: which one asks for the change list, and what edits name.
+-- What a command leaves, and what the laws of `Events` are told of commands: which one asks for the change list, and
+-- what edits name.
 use Rattle.std.specs.Prelude.{◌≡◌, ◌≢◌, ℕ, Bool, true, false, if◌then◌else◌, List, [], ◌∷◌, ◌++◌, length, Option, Some, None}
 use Rattle.wi_values.specs.Address.{Area}
 use Rattle.wi_scenario_list.specs.Scenarios.{IsChain, scenario_of}

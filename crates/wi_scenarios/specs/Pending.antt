@@ -1,4 +1,5 @@
--- What a workbook is seen as, and which cells may be pending for its sessions: those that may differ from what they were shown.
+-- What a workbook is seen as, and which cells may be pending for its sessions: those that may differ from what they
+-- were shown.
 use Rattle.std.specs.Prelude.{◌≡◌, ◌≢◌, ℕ, ◌<◌, ◌⊎◌, ◌++◌, ◌∷◌, Bool, true, ◌-◌, List, [], All, filter, map, length}
 use Rattle.std.specs.List.{slice_index_or, slice_set}
 use Rattle.std.specs.Map.{keys_of}

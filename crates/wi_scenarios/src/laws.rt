@@ -19,25 +19,25 @@ pub fn one_answer()
         → IsStep s c b → a ≡ b }
 {}
 
-/// In a workbook that was just made, and so after each run from there, the current session is one of the sessions, and none
-/// has seen more of the log than there is.
+/// In a workbook that was just made, and so after each run from there, the current session is one of the sessions, and
+/// none has seen more of the log than there is.
 #[tactic(auto, using(crate::proofs::RunLemmas::new_is_coherent, crate::proofs::RunLemmas::stays_coherent))]
 pub fn runs_stay_coherent()
     ensures new { (stored : Stored) → IsCoherent (state_over stored) }
     ensures stays { (s : State) (es : List (Event Command)) → StaysCoherent IsStep s es }
 {}
 
-/// In a workbook that was just made, and so after each run from there, there are no more scenarios than may be, and each has a
-/// chain: none is based on itself, at any remove, or on one that isn't there. So what `chain_of` gives, by which commands show
-/// what scenarios put in, is the chain.
+/// In a workbook that was just made, and so after each run from there, there are no more scenarios than may be, and
+/// each has a chain: none is based on itself, at any remove, or on one that isn't there. So what `chain_of` gives, by
+/// which commands show what scenarios put in, is the chain.
 pub fn scenarios_have_chains()
     ensures new { (stored : Stored) → HasChains (state_over stored).scenarios }
     ensures kept { (s : State) (es : List (Event Command)) → KeepsChains s es }
     ensures is_chain { (s : State) (name : Option (List ℕ)) → GivesChain s name }
 {}
 
-/// In every interleaving, the change lists that a session is told, put into the picture that it had before, make the one that
-/// it has at the end, which has what it was shown at the last of them.
+/// In every interleaving, the change lists that a session is told, put into the picture that it had before, make the
+/// one that it has at the end, which has what it was shown at the last of them.
 pub fn change_lists_add_up()
     ensures { (s : State) (es : List (Event Command)) (i : ℕ) → IsCoherent s
         → MayFollow IsStep s es → ListsAddUp is_changes s es i }
@@ -58,9 +58,10 @@ pub fn sessions_keep_apart()
         → MayHappen IsStep s e → KeepsApart s e i }
 {}
 
-/// The log grows by the accepted edits, and what a session hasn't seen of it are those since it was last told a change list. An
-/// edit that isn't forced, and isn't refused for a cause that counts before or as out of memory, is refused for a stale cell
-/// exactly where others' edits since then name one of its cells, and for the first such. One that is forced never is.
+/// The log grows by the accepted edits, and what a session hasn't seen of it are those since it was last told a change
+/// list. An edit that isn't forced, and isn't refused for a cause that counts before or as out of memory, is refused
+/// for a stale cell exactly where others' edits since then name one of its cells, and for the first such. One that is
+/// forced never is.
 pub fn stale_is_newer()
     ensures log { (s : State) (es : List (Event Command)) (i : ℕ) → IsCoherent s
         → MayFollow IsStep s es → LogGrows is_changes named_by s es i }
