@@ -157,7 +157,8 @@ impl<C: Calculator> Workbook<C> {
     /// formula's references move by the distance; where one would leave the sheet, the whole command is refused. From
     /// an empty cell the rectangle is emptied. `force` is as of `set`. The work grows with the cells of the rectangle.
     pub fn fill(&mut self, from: Address, area: Rect, force: bool) -> Result<(), Refusal>
-        ensures step { Serves (IsStep self.old.state (command.Fill force (cell from) (corners area)))
+        ensures step { Serves
+            (IsStep self.old.state (command.Fill force (cell from) (corners area)))
             result self.old.state self.new.state [] }
         ensures adds { AddsOnly C.marked (cells_of area)
             self.old.state self.new.state self.old.pending self.new.pending }
