@@ -145,5 +145,6 @@ os.kill(os.getpid(), {by})
         )
 
     def done_files(self, folder: str = "work") -> dict[str, int]:
-        """The chunks that have a file, and when it came."""
-        return {it.name: it.stat().st_mtime_ns for it in (self.folder / folder / "done").iterdir()}
+        """The chunks that have a file, and when it came. A file that is still being written has a name with a point before it."""
+        done = (self.folder / folder / "done").iterdir()
+        return {it.name: it.stat().st_mtime_ns for it in done if not it.name.startswith(".")}
