@@ -4,7 +4,7 @@ use Rattle.wi_scenarios.specs.declared.refusal.Refusal.TheVariants as refusal
 use Rattle.wi_cli.specs.Inner.Calls as call
 use Rattle.wi_scenarios.proofs.OperandLemmas.{spanned_again}
 use Rattle.wi_scenarios.proofs.ClearSteps.{cleared, clear_step, clear_of}
-use Rattle.wi_cli.proofs.Ties.Uniqueness.{HasStep, same_answers}
+use Rattle.wi_cli.proofs.Ties.CallAnswers.{HasStep, same_answers}
 
 module _ (s : State) (force : Bool) (r : Corners) where
   abbrev by_place : Bool → Type 0

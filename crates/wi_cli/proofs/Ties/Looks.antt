@@ -1,18 +1,15 @@
 -- The steps of the commands that look at cells: `show`, `export`, `compare` and `formula`.
-use Rattle.wi_cli.proofs.Vocabulary.{◌≡◌, ◌*◌, ℕ, Bool, true, false, ◌||◌, nat_lt, Option, Ok, Err, refl, ap, ◌∙◌, arith, Area, size_of, lacks, State, max_area, of_operand, Cell, Corners, is_outside, address, area, Bytes, Command, Show, Export, Compare, Formula, Answer, IsStep, read_area, call_of}
+use Rattle.wi_cli.proofs.Vocabulary.{◌≡◌, ◌*◌, ℕ, Bool, true, false, ◌||◌, nat_lt, Option, Ok, Err, refl, arith, Area, size_of, lacks, State, max_area, of_operand, Cell, Corners, is_outside, address, area, Bytes, Command, Show, Export, Compare, Formula, Answer, IsStep, read_area, call_of}
 use Rattle.wi_scenarios.specs.declared.refusal.Refusal.TheVariants as refusal
 use Rattle.wi_cli.specs.Inner.Calls as call
 use Rattle.wi_scenarios.specs.Inner.Placed.{IsSpanned}
 use Rattle.wi_scenarios.proofs.OperandLemmas.{placed_again, spanned_again}
 use Rattle.wi_scenarios.proofs.LookSteps.{area_answer, shown_in, show_step, show_of, exported_in, export_step, export_of_area, compared_in, compare_step, compare_of, told_of, formula_step, formula_of}
-use Rattle.wi_cli.proofs.Ties.Uniqueness.{HasStep, same_answers}
+use Rattle.wi_cli.proofs.Ties.CallAnswers.{HasStep, same_answers}
 
 -- a number of cells, as a product
 pub once : (n : ℕ) → n ≡ n * 1
 once n = omega arith
-
-pub large_once : (n : ℕ) (b : Bool) → nat_lt max_area (n * 1) ≡ b → nat_lt max_area n ≡ b
-large_once n b e = ap (nat_lt max_area) (once n) ∙ e
 
 -- ---- an area
 

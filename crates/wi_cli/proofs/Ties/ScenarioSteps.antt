@@ -3,7 +3,7 @@ use Rattle.wi_cli.proofs.Vocabulary.{◌≡◌, ℕ, Bool, true, false, [], ◌�
 use Rattle.wi_scenarios.specs.declared.refusal.Refusal.TheVariants as refusal
 use Rattle.wi_scenarios.proofs.OperandLemmas.{placed_again}
 use Rattle.wi_scenarios.proofs.ScenarioSteps.{away_answer, away_step, away_of, put_answer, put_step, put_of}
-use Rattle.wi_cli.proofs.Ties.Uniqueness.{HasStep, same_answers}
+use Rattle.wi_cli.proofs.Ties.CallAnswers.{HasStep, same_answers}
 
 module _ (s : State) (name : Bytes) (at : Cell) where
   away_by : (out : Bool) → is_outside at ≡ out → HasStep s (Scenario name at [])

@@ -4,7 +4,7 @@ use Rattle.wi_scenarios.specs.declared.refusal.Refusal.TheVariants as refusal
 use Rattle.wi_cli.specs.Inner.Calls as call
 use Rattle.wi_scenarios.proofs.OperandLemmas.{placed_again}
 use Rattle.wi_scenarios.proofs.SetSteps.{content_answer, set_none, set_some, set_placed}
-use Rattle.wi_cli.proofs.Ties.Uniqueness.{HasStep, same_answers}
+use Rattle.wi_cli.proofs.Ties.CallAnswers.{HasStep, same_answers}
 
 module _ (s : State) (force : Bool) (c : Cell) where
   empty : HasStep s (Set force c [])
