@@ -1,5 +1,5 @@
 -- That the definitions are what the code's own contracts say.
-pub mod Uniqueness
+pub mod CallAnswers
 pub mod Codes
 pub mod Tables
 pub mod Looks
@@ -10,7 +10,7 @@ pub mod Fills
 pub mod ScenarioSteps
 pub mod Steps
 pub mod Lacks
-pub mod Wants
+pub mod MayLack
 pub mod Replies
 pub mod Written
 pub mod Addresses

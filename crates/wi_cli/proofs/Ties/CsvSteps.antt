@@ -4,7 +4,7 @@ use Rattle.wi_scenarios.specs.declared.refusal.Refusal.TheVariants as refusal
 use Rattle.wi_cli.specs.Inner.Calls as call
 use Rattle.wi_scenarios.proofs.OperandLemmas.{placed_again}
 use Rattle.wi_scenarios.proofs.CsvSteps.{ImportOutcome, long_lines, no_long_line, cut, not_cut, csv_answer, csv_step, csv_of}
-use Rattle.wi_cli.proofs.Ties.Uniqueness.{HasStep, same_answers}
+use Rattle.wi_cli.proofs.Ties.CallAnswers.{HasStep, same_answers}
 use Rattle.wi_cli.proofs.Ties.Tables.{inside}
 
 -- ---- a word that is no cell

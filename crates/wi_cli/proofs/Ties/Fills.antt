@@ -4,7 +4,7 @@ use Rattle.wi_scenarios.specs.declared.refusal.Refusal.TheVariants as refusal
 use Rattle.wi_cli.specs.Inner.Calls as call
 use Rattle.wi_scenarios.proofs.OperandLemmas.{placed_again, spanned_again}
 use Rattle.wi_scenarios.proofs.FillSteps.{fill_edit, leaves, filled_by, fill_step, fill_of, fill_out}
-use Rattle.wi_cli.proofs.Ties.Uniqueness.{HasStep, same_answers}
+use Rattle.wi_cli.proofs.Ties.CallAnswers.{HasStep, same_answers}
 
 module _ (s : State) (force : Bool) (c : Cell) (r : Corners) where
   abbrev by_place : Bool → Bool → Type 0

@@ -6,7 +6,7 @@ use Rattle.wi_cli.specs.Reply.{refused}
 use Rattle.wi_scenarios.proofs.CauseTests.{refusal_for}
 use Rattle.wi_cli.proofs.Ties.Codes.{code, first_coded}
 use Rattle.wi_cli.proofs.Ties.Steps.{same_step}
-use Rattle.wi_cli.proofs.Ties.Wants.{may_lack}
+use Rattle.wi_cli.proofs.Ties.MayLack.{may_lack}
 
 module _ (s : State) (c : Command) where
   pub told_is : (x : Cause) (e : Refusal) → Tells s c x e → refused_line e ≡ codes "refused E" ++ code x ++ cell_named x (stale_cell s c) ++ codes "\n"

@@ -1,7 +1,7 @@
 -- The call that a command is read as has the answers of the command.
 use Rattle.wi_cli.proofs.Vocabulary.{inl, inr, Some, None, Err, refl, State, Command, Set, Clear, Fill, Csv, Scenario, Drop, Base, Use, As, Show, Export, Compare, Table, Formula, Changes, Unknown, Unreadable, BadLine, BadCommand, call_of}
 use Rattle.wi_scenarios.specs.declared.refusal.Refusal.TheVariants as refusal
-use Rattle.wi_cli.proofs.Ties.Uniqueness.{HasStep, same_answers}
+use Rattle.wi_cli.proofs.Ties.CallAnswers.{HasStep, same_answers}
 use Rattle.wi_cli.proofs.Ties.Sets.{same_set}
 use Rattle.wi_cli.proofs.Ties.Clears.{same_clear}
 use Rattle.wi_cli.proofs.Ties.Fills.{same_fill}

@@ -7,7 +7,7 @@ use Rattle.wi_scenarios.specs.Inner.Placed.{IsTablePlaced}
 use Rattle.wi_scenarios.proofs.OperandLemmas.{placed_again, spanned_again}
 use Rattle.wi_scenarios.proofs.TableSteps.{table_answer, tabled, table_step, table_by}
 use Rattle.wi_cli.proofs.Ties.Looks.{once}
-use Rattle.wi_cli.proofs.Ties.Uniqueness.{HasStep, same_answers}
+use Rattle.wi_cli.proofs.Ties.CallAnswers.{HasStep, same_answers}
 
 -- ---- faults of operands, one after another
 

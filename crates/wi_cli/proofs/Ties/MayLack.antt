@@ -1,5 +1,5 @@
 -- Where memory may be lacking, for each command.
-use Rattle.wi_cli.proofs.Vocabulary.{◌≡◌, ◌-◌, ℕ, Bool, true, false, ◌==◌, ◌||◌, List, [], ◌∷◌, length, Option, Some, None, refl, ap, subst, arith, list_any, nat_tests, both_ways, Refusal, State, MayGrow, of_operand, is_long, Cell, Corners, is_outside, address, area, Bytes, Command, Set, Clear, Fill, Csv, Scenario, Drop, Base, Use, As, Show, Export, Compare, Table, Formula, Changes, Unknown, Unreadable, form, BadLine, BadCommand, CutShort, Outside, BadField, OutOfSheet, Holds, lies_outside, Answer, IsStep, call_of, read_by, or-false, ◌∙◌}
+use Rattle.wi_cli.proofs.Vocabulary.{◌≡◌, ◌-◌, ℕ, Bool, true, false, ◌==◌, ◌||◌, List, [], ◌∷◌, length, Option, Some, None, refl, subst, arith, list_any, nat_tests, both_ways, Refusal, State, MayGrow, of_operand, is_long, Cell, Corners, is_outside, address, area, Bytes, Command, Set, Clear, Fill, Csv, Scenario, Drop, Base, Use, As, Show, Export, Compare, Table, Formula, Changes, Unknown, Unreadable, form, BadLine, BadCommand, CutShort, Outside, BadField, OutOfSheet, Holds, lies_outside, Answer, IsStep, call_of, read_by, or-false, ◌∙◌}
 use Rattle.wi_scenarios.specs.declared.refusal.Refusal.TheVariants as refusal
 use Rattle.wi_cli.specs.Reply.{MayLackMemory}
 use Rattle.wi_cli.specs.Inner.Calls as call
@@ -23,43 +23,19 @@ module _ (s : State) (c : Command) where
       let lack = has_lack s c inside come texts w (subst (λ (x : call.Call). (a : Answer) → call.IsCallStep s x a → IsStep s c a) eq (same_step s c)) in
       late_coded s c (lack (grows (subst (call.CallMayLackMemory s) eq h)))
 
+  -- of a call with one operand, which lies outside the sheet or not
+  by_operand : {X : Type 0} (x : X) (f : X → call.Call) (outside : Bool) → call_of c ≡ of_operand (read_by outside x) f → (call.CallMayLackMemory s (f x) → MayGrow (call.IsCallStep s (f x)))
+      → (outside ≡ false → Holds s Outside c → ⊥) → (Holds s CutShort c → ⊥) → (Holds s BadField c → ⊥) → call.CallMayLackMemory s (call_of c) → LateCoded s c
+  by_operand x f true eq grows inside come texts h = absurd (subst (call.CallMayLackMemory s) eq h)
+  by_operand x f false eq grows inside come texts h = proper_lack (f x) eq grows (inside refl) come texts h
+
 -- ---- each command
-
-lack_show : (s : State) (r : Corners) (b : Bool) → (is_outside r.0 || is_outside r.1) ≡ b → HasLack s (Show r)
-lack_show s r true e = refused s (Show r) refusal.OutOfSheet (ap (λ (x : Bool). of_operand (read_by x (area r)) (λ at. call.Show at)) e)
-lack_show s r false e =
-    proper_lack s (Show r) (call.Show (area r)) (ap (λ (x : Bool). of_operand (read_by x (area r)) (λ at. call.Show at)) e) (λ h. h) (λ h. both_ways _ (or-false _ ∙ e) h) (λ h. h) (λ h. h)
-
-lack_export : (s : State) (r : Corners) (b : Bool) → (is_outside r.0 || is_outside r.1) ≡ b → HasLack s (Export r)
-lack_export s r true e = refused s (Export r) refusal.OutOfSheet (ap (λ (x : Bool). of_operand (read_by x (area r)) (λ at. call.Export at)) e)
-lack_export s r false e =
-    proper_lack s (Export r) (call.Export (area r)) (ap (λ (x : Bool). of_operand (read_by x (area r)) (λ at. call.Export at)) e) (λ h. h) (λ h. both_ways _ (or-false _ ∙ e) h) (λ h. h) (λ h. h)
-
-lack_compare : (s : State) (p q : Option Bytes) (r : Corners) (b : Bool) → (is_outside r.0 || is_outside r.1) ≡ b → HasLack s (Compare p q r)
-lack_compare s p q r true e = refused s (Compare p q r) refusal.OutOfSheet (ap (λ (x : Bool). of_operand (read_by x (area r)) (λ at. call.Compare p q at)) e)
-lack_compare s p q r false e =
-    proper_lack s (Compare p q r) (call.Compare p q (area r)) (ap (λ (x : Bool). of_operand (read_by x (area r)) (λ at. call.Compare p q at)) e) (λ h. h) (λ h. both_ways _ (or-false _ ∙ e) h) (λ h. h) (λ h. h)
-
-lack_formula : (s : State) (c : Cell) (b : Bool) → is_outside c ≡ b → HasLack s (Formula c)
-lack_formula s c true e = refused s (Formula c) refusal.OutOfSheet (ap (λ (x : Bool). of_operand (read_by x (address c)) (λ at. call.Formula at)) e)
-lack_formula s c false e =
-    proper_lack s (Formula c) (call.Formula (address c)) (ap (λ (x : Bool). of_operand (read_by x (address c)) (λ at. call.Formula at)) e) (λ h. h) (λ h. both_ways _ (or-false _ ∙ e) h) (λ h. h) (λ h. h)
-
-lack_scenario : (s : State) (name : Bytes) (c : Cell) (text : Bytes) (b : Bool) → is_outside c ≡ b → HasLack s (Scenario name c text)
-lack_scenario s name c text true e = refused s (Scenario name c text) refusal.OutOfSheet (ap (λ (x : Bool). of_operand (read_by x (address c)) (λ at. call.Scenario name at text)) e)
-lack_scenario s name c text false e =
-    proper_lack s (Scenario name c text) (call.Scenario name (address c) text) (ap (λ (x : Bool). of_operand (read_by x (address c)) (λ at. call.Scenario name at text)) e) (λ h. h) (λ h. both_ways _ (or-false _ ∙ e) h) (λ h. h) (λ h. h)
 
 set_outside : (force b : Bool) (c : Cell) (text : Bytes) → is_outside c ≡ b → list_any lies_outside (form (Set force c text)) ≡ b
 set_outside true true c text e = or-false _ ∙ e
 set_outside true false c text e = or-false _ ∙ e
 set_outside false true c text e = or-false _ ∙ e
 set_outside false false c text e = or-false _ ∙ e
-
-lack_clear : (s : State) (force : Bool) (r : Corners) (b : Bool) → (is_outside r.0 || is_outside r.1) ≡ b → HasLack s (Clear force r)
-lack_clear s force r true e = refused s (Clear force r) refusal.OutOfSheet (ap (λ (x : Bool). of_operand (read_by x (area r)) (λ at. call.Clear force at)) e)
-lack_clear s force r false e =
-    proper_lack s (Clear force r) (call.Clear force (area r)) (ap (λ (x : Bool). of_operand (read_by x (area r)) (λ at. call.Clear force at)) e) (λ h. h) (λ h. both_ways _ (clear_outside force false r e) h) (λ h. h) (λ h. h)
 
 lack_fill : (s : State) (force : Bool) (c : Cell) (r : Corners) (a b : Bool) → is_outside c ≡ a → (is_outside r.0 || is_outside r.1) ≡ b → HasLack s (Fill force c r)
 lack_fill s force c r true true e f = refused s (Fill force c r) refusal.OutOfSheet (rw (e, f) refl)
@@ -113,21 +89,27 @@ bare_lack s force n lines false e = refused s (Csv force None n lines) refusal.B
 
 pub may_lack : (s : State) (c : Command) → HasLack s c
 may_lack s (Set force at text) = lack_set s force at text (is_outside at) refl
-may_lack s (Clear force r) = lack_clear s force r (is_outside r.0 || is_outside r.1) refl
+may_lack s (Clear force r) =
+    by_operand s (Clear force r) (area r) (λ a. call.Clear force a) (is_outside r.0 || is_outside r.1) refl (λ h. h) (λ e h. both_ways _ (clear_outside force false r e) h) (λ h. h) (λ h. h)
 may_lack s (Fill force at r) = lack_fill s force at r (is_outside at) (is_outside r.0 || is_outside r.1) refl refl
 may_lack s (Csv force (Some c) n lines) = data_lack s force c n lines (is_outside c) (list_any is_long lines) (n - length lines == 0) refl refl refl
 may_lack s (Csv force None n lines) = bare_lack s force n lines (list_any is_long lines) refl
-may_lack s (Scenario name at text) = lack_scenario s name at text (is_outside at) refl
+may_lack s (Scenario name at text) =
+    by_operand s (Scenario name at text) (address at) (λ a. call.Scenario name a text) (is_outside at) refl (λ h. h) (λ e h. both_ways _ (or-false _ ∙ e) h) (λ h. h) (λ h. h)
 may_lack s (Drop name) = λ h. h
 may_lack s (Base name other) = lack_base s name other
 may_lack s (Use name) = lack_use s name
 may_lack s (As name) = lack_as s name
-may_lack s (Show r) = lack_show s r (is_outside r.0 || is_outside r.1) refl
-may_lack s (Export r) = lack_export s r (is_outside r.0 || is_outside r.1) refl
-may_lack s (Compare p q r) = lack_compare s p q r (is_outside r.0 || is_outside r.1) refl
+may_lack s (Show r) =
+    by_operand s (Show r) (area r) (λ a. call.Show a) (is_outside r.0 || is_outside r.1) refl (λ h. h) (λ e h. both_ways _ (or-false _ ∙ e) h) (λ h. h) (λ h. h)
+may_lack s (Export r) =
+    by_operand s (Export r) (area r) (λ a. call.Export a) (is_outside r.0 || is_outside r.1) refl (λ h. h) (λ e h. both_ways _ (or-false _ ∙ e) h) (λ h. h) (λ h. h)
+may_lack s (Compare p q r) =
+    by_operand s (Compare p q r) (area r) (λ a. call.Compare p q a) (is_outside r.0 || is_outside r.1) refl (λ h. h) (λ e h. both_ways _ (or-false _ ∙ e) h) (λ h. h) (λ h. h)
 may_lack s (Table f r xs None) = lack_one s f r xs (one_bent s f r xs) (one_out s f r xs) refl refl
 may_lack s (Table f r xs (Some y)) = lack_two s f r xs y.0 y.1 (bent s f r xs y.0 y.1) (out s f r xs y.0 y.1) refl refl
-may_lack s (Formula at) = lack_formula s at (is_outside at) refl
+may_lack s (Formula at) =
+    by_operand s (Formula at) (address at) (λ a. call.Formula a) (is_outside at) refl (λ h. h) (λ e h. both_ways _ (or-false _ ∙ e) h) (λ h. h) (λ h. h)
 may_lack s Changes = proper_lack s Changes call.Changes refl (λ h. h) (λ h. both_ways false refl h) (λ h. h) (λ h. h)
 may_lack s Unknown = refused s Unknown refusal.BadCommand refl
 may_lack s Unreadable = refused s Unreadable refusal.BadLine refl
