@@ -1,5 +1,5 @@
 -- The step of `set`, by what its body finds.
-use Rattle.wi_scenarios.proofs.Words.{◌≡◌, ◌<◌, ℕ, Bool, true, false, ◌==◌, List, [], ◌∷◌, length, ◌⊎◌, inl, inr, Some, map, ◌++◌, Result, Ok, Err, if◌then◌else◌, refl, sym, ap, ◌∙◌, subst, arith, list_any, nat_tests, both_ways, Content, ParseFault, cell_area, State, max_area, Answer, parse_refusal, Edit, edit_answer}
+use Rattle.wi_scenarios.proofs.Words.{◌≡◌, ◌↔◌, ◌<◌, ℕ, Bool, true, false, ◌==◌, List, [], ◌∷◌, length, ◌⊎◌, inl, inr, Some, map, ◌++◌, Result, Ok, Err, if◌then◌else◌, refl, sym, ap, ◌∙◌, subst, arith, list_any, nat_tests, both_ways, Content, ParseFault, cell_area, State, max_area, Answer, parse_refusal, Edit, edit_answer}
 use Rattle.wi_parser.specs.Contents.{IsContent}
 use Rattle.wi_parser.specs.Inner.Answered.{HasFault, IsAnsweredAs, IsFirstFault, faults}
 use Rattle.wi_parser.proofs.ContentsOfTexts.{is_fault, one_content}
