@@ -1,7 +1,9 @@
 -- A command by its name and its words.
 use Rattle.wi_cli.proofs.Vocabulary.{◌≡◌, ℕ, Bool, true, false, cond, List, refl, sym, ap, ◌∙◌, subst, Result, codes, bytes_eq, bytes_eq-Decides, read_rect, Refusal, Refused, first_word, after_word, of_name, of_operand, read_side, is_all_spaces, compare_command, edit_command, named_command, IsCommandOf}
 use Rattle.wi_scenarios.specs.declared.refusal.Refusal.TheVariants.{BadCommand}
-use Rattle.wi_cli.specs.Inner.Calls.{Call, Compare}
+use Rattle.wi_scenarios.specs.Commands.Operands.{corners}
+use Rattle.wi_scenarios.specs.Commands.Command.{Compare}
+use Rattle.wi_cli.specs.Inner.Calls.{Call, Placed}
 use Rattle.wi_cli.specs.declared.command.Command.{Command as ReadCommand}
 
 -- a word that is none of the other names is an edit's
@@ -21,7 +23,7 @@ edit_named word operands a b c d e f g h i j k l =
     rw (not_name word (codes "force") a, not_name word (codes "scenario") b, not_name word (codes "drop") c, not_name word (codes "base") d, not_name word (codes "use") e, not_name word (codes "as") f, not_name word (codes "show") g, not_name word (codes "export") h, not_name word (codes "changes") i, not_name word (codes "compare") j, not_name word (codes "table") k, not_name word (codes "formula") l) refl
 
 abbrev pub compare_words : List ℕ → List ℕ → List ℕ → Call
-compare_words one two area = of_name (read_side one) (λ s. of_name (read_side two) (λ t. of_operand (read_rect area) (λ cells. Compare s t cells)))
+compare_words one two area = of_name (read_side one) (λ s. of_name (read_side two) (λ t. of_operand (read_rect area) (λ cells. Placed (Compare s t (corners cells)))))
 
 -- its three words are the operands, and none is left
 pub compared : (text one behind two behind' area : List ℕ) (r : Result ReadCommand Refusal) → one ≡ first_word text → behind ≡ after_word text

@@ -6,7 +6,7 @@ use Rattle.wi_values.specs.declared.address.AddressFault.{AddressFault}
 use Rattle.wi_values.specs.declared.address.AddressFault.TheVariants.{Shape, Outside as AtOutside}
 use Rattle.wi_scenarios.specs.declared.refusal.Refusal.TheVariants as refusal
 use Rattle.wi_cli.specs.Inner.Calls as call
-use Rattle.wi_scenarios.specs.Commands.Operands.{Cell, Corners, is_outside, address, area}
+use Rattle.wi_scenarios.specs.Commands.Operands.{Cell, Corners, is_outside, address, area, cell, corners}
 use Rattle.wi_scenarios.specs.Commands.Command.{Command, Set, Clear, Fill, Csv, Scenario, Drop, Base, Use, As, Show, Export, Compare, Table, Formula, Changes, Unknown, Unreadable}
 use Rattle.wi_cli.specs.Lines.{without_lf, Bytes}
 use Rattle.wi_cli.specs.Inner.Operands.{of_operand}
@@ -46,22 +46,22 @@ pub record SameRect (word : Bytes) : Type 0 where
 
 -- the call that a command is read as
 abbrev pub call_of : Command → call.Call
-call_of (Set force at text) = if length text == 0 then call.Refused refusal.BadCommand else of_operand (read_cell at) (λ a. call.Set force a text)
-call_of (Clear force rect) = of_operand (read_area rect) (λ r. call.Clear force r)
+call_of (Set force at text) = if length text == 0 then call.Refused refusal.BadCommand else of_operand (read_cell at) (λ a. call.Placed (Set force (cell a) text))
+call_of (Clear force rect) = of_operand (read_area rect) (λ r. call.Placed (Clear force (corners r)))
 call_of (Fill force at rect) = fill_command_of force (read_cell at) (read_area rect)
 call_of (Csv force at n lines) = csv_command force (read_any at) lines (n - length lines)
-call_of (Scenario name at text) = of_operand (read_cell at) (λ a. call.Scenario name a text)
-call_of (Drop name) = call.Drop name
-call_of (Base name other) = call.Base name other
-call_of (Use name) = call.Use name
-call_of (As name) = call.As name
-call_of (Show rect) = of_operand (read_area rect) (λ r. call.Show r)
-call_of (Export rect) = of_operand (read_area rect) (λ r. call.Export r)
-call_of (Compare p q rect) = of_operand (read_area rect) (λ r. call.Compare p q r)
+call_of (Scenario name at text) = of_operand (read_cell at) (λ a. call.Placed (Scenario name (cell a) text))
+call_of (Drop name) = call.Placed (Drop name)
+call_of (Base name other) = call.Placed (Base name other)
+call_of (Use name) = call.Placed (Use name)
+call_of (As name) = call.Placed (As name)
+call_of (Show rect) = of_operand (read_area rect) (λ r. call.Placed (Show (corners r)))
+call_of (Export rect) = of_operand (read_area rect) (λ r. call.Placed (Export (corners r)))
+call_of (Compare p q rect) = of_operand (read_area rect) (λ r. call.Placed (Compare p q (corners r)))
 call_of (Table f r xs None) = table_of_one (read_cell f) (read_cell r) (read_area xs)
 call_of (Table f r xs (Some y)) = table_of_two (read_cell f) (read_cell r) (read_area xs) (read_cell y.0) (read_area y.1)
-call_of (Formula at) = of_operand (read_cell at) (λ a. call.Formula a)
-call_of Changes = call.Changes
+call_of (Formula at) = of_operand (read_cell at) (λ a. call.Placed (Formula (cell a)))
+call_of Changes = call.Placed Changes
 call_of Unknown = call.Refused refusal.BadCommand
 call_of Unreadable = call.Refused refusal.BadLine
 

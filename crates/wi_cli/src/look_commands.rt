@@ -1,7 +1,9 @@
 //! The commands that show what a workbook holds, as they are read.
 
 ghost use Rattle.wi_values.specs.AddressReading.{read_rect};
-ghost use Rattle.wi_cli.specs.Inner.Calls.{Compare};
+ghost use Rattle.wi_scenarios.specs.Commands.Command.{Compare};
+ghost use Rattle.wi_scenarios.specs.Commands.Operands.{corners};
+ghost use Rattle.wi_cli.specs.Inner.Calls.{Placed};
 ghost use Rattle.wi_cli.specs.Inner.Operands.{of_name, of_operand, read_side};
 ghost use Rattle.wi_cli.specs.Inner.LookCommands.{show_command, export_command, changes_command, compare_command, formula_command};
 ghost use Rattle.wi_cli.specs.Inner.Spelling.{IsCommandOf};
@@ -51,7 +53,7 @@ pub(crate) fn read_compare(operands: &str) -> Result<Command<'_>, Refusal>
 /// `compare` of these words.
 fn compare_of<'a>(first: &'a str, second: &'a str, area: &str) -> Result<Command<'a>, Refusal>
     ensures { IsCommandOf (of_name (read_side first.now) (λ s. of_name (read_side second.now) (λ t.
-        of_operand (read_rect area.now) (λ cells. Compare s t cells)))) result }
+        of_operand (read_rect area.now) (λ cells. Placed (Compare s t (corners cells)))))) result }
 {
     let first = read_side(first)?;
     let second = read_side(second)?;

@@ -1,6 +1,7 @@
 -- The step of `fill`.
 use Rattle.wi_cli.proofs.Vocabulary.{◌≡◌, Bool, true, false, ◌||◌, nat_lt, Err, refl, size_of, State, max_area, fill_command_of, Cell, Corners, is_outside, address, area, Fill, Answer, IsStep, read_by}
 use Rattle.wi_scenarios.specs.declared.refusal.Refusal.TheVariants as refusal
+use Rattle.wi_scenarios.specs.Commands.Operands.{cell, corners}
 use Rattle.wi_cli.specs.Inner.Calls as call
 use Rattle.wi_scenarios.proofs.OperandLemmas.{placed_again, spanned_again}
 use Rattle.wi_scenarios.proofs.FillSteps.{fill_edit, leaves, filled_by, fill_step, fill_of, fill_out}
@@ -19,7 +20,7 @@ module _ (s : State) (force : Bool) (c : Cell) (r : Corners) where
       let to = area r in
       let large = nat_lt max_area (size_of to) in
       let outside = leaves s from to in
-      same_answers s (Fill force c r) (call.Fill force from to) (filled_by s force large outside (fill_edit s.stored.sheet from to))
+      same_answers s (Fill force c r) (call.Placed (Fill force (cell from) (corners to))) (filled_by s force large outside (fill_edit s.stored.sheet from to))
       (fill_of s force from to (placed_again c o) (spanned_again r p) large outside refl refl) (fill_step s force c r o p large outside refl refl) a
 
   pub same_fill : HasStep s (Fill force c r)

@@ -1,7 +1,8 @@
 -- For each name the operands that are spelled behind it, and the command that was read there.
-use Rattle.wi_cli.proofs.Vocabulary.{◌≡◌, ℕ, Bool, true, false, ◌==◌, ◌||◌, List, [], ◌∷◌, length, ◌⊎◌, inl, inr, Option, Some, None, Result, Ok, Err, option_map, if◌then◌else◌, refl, sym, ap, ap₂, ◌∙◌, result_err, both_ways, Area, read_address, read_rect, is_name, read_name, AddressFault, Shape, first_word, after_word, Bytes, at_end, of_operand, of_name, only_name, name_or_none, read_side, line_fault, is_column, is_row, is_all_spaces, set_command, fill_command, fill_command_of, scenario_command, base_command, use_command, changes_command, compare_command, formula_command, table_command, table_of_one, table_of_two, Cell, Corners, Operand, ADDR, RECT, NAME, SIDE, CONTENT, IsAddr, IsRect, IsSpelled, IsWritten, Set, Fill, Scenario, Base, Use, Compare, Table, Formula, Changes, call_of, read_cell, read_area}
+use Rattle.wi_cli.proofs.Vocabulary.{◌≡◌, ℕ, Bool, true, false, ◌==◌, ◌||◌, List, [], ◌∷◌, length, ◌⊎◌, inl, inr, Option, Some, None, Result, Ok, Err, option_map, if◌then◌else◌, refl, sym, ap, ap₂, ◌∙◌, result_err, both_ways, Area, read_address, read_rect, is_name, read_name, AddressFault, Shape, first_word, after_word, Bytes, at_end, of_operand, of_name, only_name, name_or_none, read_side, line_fault, is_column, is_row, is_all_spaces, set_command, fill_command, fill_command_of, scenario_command, base_command, use_command, changes_command, compare_command, formula_command, table_command, table_of_one, table_of_two, Cell, Corners, Operand, ADDR, RECT, NAME, SIDE, CONTENT, IsAddr, IsRect, IsSpelled, IsWritten, Set, Fill, Scenario, Drop, Base, Use, Compare, Table, Formula, Changes, call_of, read_cell, read_area}
 use Rattle.wi_values.specs.declared.address.AddressFault.TheVariants.{Outside}
 use Rattle.wi_scenarios.specs.declared.refusal.Refusal.TheVariants as refusal
+use Rattle.wi_scenarios.specs.Commands.Operands.{cell, corners}
 use Rattle.wi_cli.specs.Inner.Calls as call
 use Rattle.wi_cli.proofs.Ties.Addresses.{same_addr}
 use Rattle.wi_cli.proofs.Ties.Rects.{same_rect}
@@ -85,7 +86,7 @@ maybe_is text (Some name) h = by (is_all_spaces text) refl
     by true e = absurd (no_spaces text name h e)
     by false e =
         ap (λ (b : Bool). if b then Some None else option_map (λ (n : Bytes). Some n) (only_name text)) e
-        ∙ ap (option_map (λ (n : Bytes). Some n)) (only_is (λ (n : Bytes). call.Drop n) text name h)
+        ∙ ap (option_map (λ (n : Bytes). Some n)) (only_is (λ (n : Bytes). call.Placed (Drop n)) text name h)
 
 pub maybe_or : (text : Bytes) → ((o : Option Bytes) × IsWritten text (maybe_form o)) ⊎ (((o : Option Bytes) → IsWritten text (maybe_form o) → ⊥) × (name_or_none text ≡ None))
 maybe_or text = by (is_all_spaces text) refl (is_all_spaces (after_word text)) refl (name_or (first_word text))
@@ -113,7 +114,7 @@ set_form x = ADDR x.0 ∷ CONTENT x.1 ∷ []
 
 pub same_set : (force : Bool) (text : Bytes) (x : Cell × Bytes) → IsWritten text (set_form x) → set_command force text ≡ call_of (Set force x.0 x.1)
 same_set force text x h =
-    ap₂ (λ (r : Result ℕ AddressFault) (t : Bytes). if length t == 0 then call.Refused refusal.BadCommand else of_operand r (λ at. call.Set force at t)) ((same_addr (first_word text)).spelled x.0 h.0) h.1.0
+    ap₂ (λ (r : Result ℕ AddressFault) (t : Bytes). if length t == 0 then call.Refused refusal.BadCommand else of_operand r (λ at. call.Placed (Set force (cell at) t))) ((same_addr (first_word text)).spelled x.0 h.0) h.1.0
 
 pub set_or : (force : Bool) (text : Bytes) → Chosen text set_form (set_command force text)
 set_or force text = by (addr_or (first_word text)) (length (after_word text) == 0) refl
@@ -157,8 +158,8 @@ cell_form c = ADDR c ∷ []
 
 pub same_formula : (text : Bytes) (c : Cell) → IsWritten text (cell_form c) → formula_command text ≡ call_of (Formula c)
 same_formula text c h =
-    end_true (after_word text) (of_operand (read_address (first_word text)) (λ at. call.Formula at)) h.1
-    ∙ ap (λ (r : Result ℕ AddressFault). of_operand r (λ at. call.Formula at)) ((same_addr (first_word text)).spelled c h.0)
+    end_true (after_word text) (of_operand (read_address (first_word text)) (λ at. call.Placed (Formula (cell at)))) h.1
+    ∙ ap (λ (r : Result ℕ AddressFault). of_operand r (λ at. call.Placed (Formula (cell at)))) ((same_addr (first_word text)).spelled c h.0)
 
 pub formula_or : (text : Bytes) → Chosen text cell_form (formula_command text)
 formula_or text = by (addr_or (first_word text)) (is_all_spaces (after_word text)) refl
@@ -173,9 +174,9 @@ scenario_form x = NAME x.0 ∷ ADDR x.1 ∷ CONTENT x.2 ∷ []
 
 pub same_scenario : (text : Bytes) (x : Bytes × Cell × Bytes) → IsWritten text (scenario_form x) → scenario_command text ≡ call_of (Scenario x.0 x.1 x.2)
 same_scenario text x h =
-    ap (λ (o : Option Bytes). of_name o (λ name. of_operand (read_address (first_word (after_word text))) (λ at. call.Scenario name at (after_word (after_word text)))))
+    ap (λ (o : Option Bytes). of_name o (λ name. of_operand (read_address (first_word (after_word text))) (λ at. call.Placed (Scenario name (cell at) (after_word (after_word text))))))
     (name_read (first_word text) x.0 h.0.0 h.0.1)
-    ∙ ap₂ (λ (r : Result ℕ AddressFault) (t : Bytes). of_operand r (λ at. call.Scenario x.0 at t)) ((same_addr (first_word (after_word text))).spelled x.1 h.1.0) h.1.1.0
+    ∙ ap₂ (λ (r : Result ℕ AddressFault) (t : Bytes). of_operand r (λ at. call.Placed (Scenario x.0 (cell at) t))) ((same_addr (first_word (after_word text))).spelled x.1 h.1.0) h.1.1.0
 
 pub scenario_or : (text : Bytes) → Chosen text scenario_form (scenario_command text)
 scenario_or text = by (name_or (first_word text)) (addr_or (first_word (after_word text)))
@@ -193,8 +194,8 @@ base_form x = NAME x.0 ∷ maybe_form x.1
 
 pub same_base : (text : Bytes) (x : Bytes × Option Bytes) → IsWritten text (base_form x) → base_command text ≡ call_of (Base x.0 x.1)
 same_base text x h =
-    ap (λ (o : Option Bytes). of_name o (λ name. of_name (name_or_none (after_word text)) (λ other. call.Base name other))) (name_read (first_word text) x.0 h.0.0 h.0.1)
-    ∙ ap (λ (o : Option (Option Bytes)). of_name o (λ other. call.Base x.0 other)) (maybe_is (after_word text) x.1 h.1)
+    ap (λ (o : Option Bytes). of_name o (λ name. of_name (name_or_none (after_word text)) (λ other. call.Placed (Base name other)))) (name_read (first_word text) x.0 h.0.0 h.0.1)
+    ∙ ap (λ (o : Option (Option Bytes)). of_name o (λ other. call.Placed (Base x.0 other))) (maybe_is (after_word text) x.1 h.1)
 
 pub base_or : (text : Bytes) → Chosen text base_form (base_command text)
 base_or text = by (name_or (first_word text)) (maybe_or (after_word text))
@@ -207,7 +208,7 @@ base_or text = by (name_or (first_word text)) (maybe_or (after_word text))
     by (inl n) (inl o) = inl ((first_word text, o.0), ((refl, n), o.1))
 
 pub same_use : (text : Bytes) (o : Option Bytes) → IsWritten text (maybe_form o) → use_command text ≡ call_of (Use o)
-same_use text o h = ap (λ (o : Option (Option Bytes)). of_name o (λ name. call.Use name)) (maybe_is text o h)
+same_use text o h = ap (λ (o : Option (Option Bytes)). of_name o (λ name. call.Placed (Use name))) (maybe_is text o h)
 
 pub use_or : (text : Bytes) → Chosen text maybe_form (use_command text)
 use_or text = by (maybe_or text)
@@ -222,7 +223,7 @@ abbrev pub no_form : Unit {0} → List Operand
 no_form x = []
 
 pub same_changes : (text : Bytes) → IsWritten text [] → changes_command text ≡ call_of Changes
-same_changes text h = end_true text call.Changes h
+same_changes text h = end_true text (call.Placed Changes) h
 
 pub changes_or : (text : Bytes) → Chosen text no_form (changes_command text)
 changes_or text = by (is_all_spaces text) refl
@@ -244,7 +245,7 @@ module _ (text : Bytes) where
   third = after_word (after_word text)
 
   abbrev compared : Option (Option Bytes) → Option (Option Bytes) → Result Area AddressFault → call.Call
-  compared p q r = of_name p (λ first. of_name q (λ second. of_operand r (λ area. call.Compare first second area)))
+  compared p q r = of_name p (λ first. of_name q (λ second. of_operand r (λ area. call.Placed (Compare first second (corners area)))))
 
   compare_is : is_all_spaces (after_word third) ≡ true → compare_command text ≡ compared (read_side (first_word text)) (read_side (first_word second)) (read_rect (first_word third))
   compare_is e = end_true (after_word third) (compared (read_side (first_word text)) (read_side (first_word second)) (read_rect (first_word third))) e

@@ -2,12 +2,13 @@
 use Rattle.wi_cli.proofs.Vocabulary.{◌≡◌, ◌<◌, ◌*◌, ℕ, min, max, Bool, true, false, not, ◌||◌, ◌&&◌, ◌==◌, nat_lt, List, [], ◌∷◌, Option, Some, None, Result, if◌then◌else◌, refl, sym, ap, ◌∙◌, subst, arith, nat_tests, list_any, result_err, or_parts, both_ways, or-false, Area, columns, row_of, column_of, size_of, AddressFault, Shape, row_of_place, column_of_place, State, max_area, is_column, is_row, of_operand, worse, line_fault, unless_refused, table_of_one, table_of_two, Cell, Corners, is_outside, address, area, Command, Table, BadCommand, Answer, read_by, read_cell, read_area, call_of, Err}
 use Rattle.wi_values.specs.declared.address.AddressFault.TheVariants.{Outside as AtOutside}
 use Rattle.wi_scenarios.specs.declared.refusal.Refusal.TheVariants as refusal
+use Rattle.wi_scenarios.specs.Commands.Operands.{cell, corners}
 use Rattle.wi_cli.specs.Inner.Calls as call
 use Rattle.wi_scenarios.specs.Inner.Placed.{IsTablePlaced}
 use Rattle.wi_scenarios.proofs.OperandLemmas.{placed_again, spanned_again}
 use Rattle.wi_scenarios.proofs.TableSteps.{table_answer, tabled, table_step, table_by}
 use Rattle.wi_cli.proofs.Ties.Looks.{once}
-use Rattle.wi_cli.proofs.Ties.CallAnswers.{HasStep, same_answers}
+use Rattle.wi_cli.proofs.Ties.CallAnswers.{HasStep, same_answers, inside}
 
 -- ---- faults of operands, one after another
 
@@ -74,9 +75,6 @@ line_out is_line true a = refl
 line_out is_line false a = shape_out (is_line a)
 
 -- ---- columns and rows
-
-pub inside : (c : Cell) → is_outside c ≡ false → c.column < columns
-inside c e = grind (arith, nat_tests)
 
 -- the row and the column of a cell, and whether two columns are one
 min_max : (a b : ℕ) → (min a b == max a b) ≡ (a == b)
@@ -174,7 +172,7 @@ module _ (s : State) (f r : Cell) (xs : Corners) (c : Cell) (ys : Corners) where
 
   abbrev command : call.Call
   command =
-      of_operand (read_cell f) (λ f. of_operand (read_cell r) (λ r. of_operand (read_area xs) (λ xs. of_operand (read_cell c) (λ c. of_operand (read_area ys) (λ ys. call.Table f r xs (Some (c, ys)))))))
+      of_operand (read_cell f) (λ f. of_operand (read_cell r) (λ r. of_operand (read_area xs) (λ xs. of_operand (read_cell c) (λ c. of_operand (read_area ys) (λ ys. call.Placed (Table (cell f) (cell r) (corners xs) (Some (cell c, corners ys))))))))
 
   call_is : (o : Option AddressFault) → worst faults ≡ o → call_of table ≡ unless_refused o command
   call_is o e =
@@ -183,7 +181,7 @@ module _ (s : State) (f r : Cell) (xs : Corners) (c : Cell) (ys : Corners) where
       ∙ ap (λ (w : Option AddressFault). unless_refused w command) e
 
   abbrev pub proper : call.Call
-  proper = call.Table (address f) (address r) (area xs) (Some (address c, area ys))
+  proper = call.Placed (Table (cell (address f)) (cell (address r)) (corners (area xs)) (Some (cell (address c), corners (area ys))))
 
   -- its call, where nothing is outside
   command_is : out ≡ false → command ≡ proper
@@ -267,7 +265,7 @@ module _ (s : State) (f r : Cell) (xs : Corners) where
           ap (λ (k : Bool). k || (q || (x || false))) a ∙ ap (λ (k : Bool). p' || (k || (x || false))) b ∙ ap (λ (k : Bool). p' || (q' || (k || false))) d
 
   abbrev one_command : call.Call
-  one_command = of_operand (read_cell f) (λ f. of_operand (read_cell r) (λ r. of_operand (read_area xs) (λ xs. call.Table f r xs None)))
+  one_command = of_operand (read_cell f) (λ f. of_operand (read_cell r) (λ r. of_operand (read_area xs) (λ xs. call.Placed (Table (cell f) (cell r) (corners xs) None))))
 
   one_call : (o : Option AddressFault) → worst one_faults ≡ o → call_of one ≡ unless_refused o one_command
   one_call o e =
@@ -280,12 +278,12 @@ module _ (s : State) (f r : Cell) (xs : Corners) where
   pub one_outside_call : one_bent ≡ false → one_out ≡ true → call_of one ≡ call.Refused refusal.OutOfSheet
   one_outside_call eb eo = one_call (Some AtOutside) (outside_next one_faults (one_shapes ∙ eb) (one_outs ∙ eo))
 
-  pub one_proper_call : one_bent ≡ false → one_out ≡ false → call_of one ≡ call.Table (address f) (address r) (area xs) None
+  pub one_proper_call : one_bent ≡ false → one_out ≡ false → call_of one ≡ call.Placed (Table (cell (address f)) (cell (address r)) (corners (area xs)) None)
   one_proper_call eb eo =
       one_call None (none_bad one_faults (one_shapes ∙ eb) (one_outs ∙ eo))
       ∙ by (or_parts _ _ eo).0 (or_parts _ _ (or_parts _ _ eo).1).0 (or_parts _ _ (or_parts _ _ (or_parts _ _ eo).1).1).0
     where
-      by : is_outside f ≡ false → is_outside r ≡ false → (is_outside xs.0 || is_outside xs.1) ≡ false → one_command ≡ call.Table (address f) (address r) (area xs) None
+      by : is_outside f ≡ false → is_outside r ≡ false → (is_outside xs.0 || is_outside xs.1) ≡ false → one_command ≡ call.Placed (Table (cell (address f)) (cell (address r)) (corners (area xs)) None)
       by ef er ex = rw (ef, er, ex) refl
 
   abbrev one_many : Bool
@@ -299,7 +297,7 @@ module _ (s : State) (f r : Cell) (xs : Corners) where
     second = tt;
   }
 
-  one_good : one_bent ≡ false → one_out ≡ false → call.IsCallStep s (call.Table (address f) (address r) (area xs) None) (table_answer false false one_many (tabled s (address f) (address r) (area xs) None))
+  one_good : one_bent ≡ false → one_out ≡ false → call.IsCallStep s (call.Placed (Table (cell (address f)) (cell (address r)) (corners (area xs)) None)) (table_answer false false one_many (tabled s (address f) (address r) (area xs) None))
   one_good eb eo =
       let inside : (is_outside xs.0 || is_outside xs.1) ≡ false = (or_parts _ _ (or_parts _ _ (or_parts _ _ eo).1).1).0 in
       let column : is_column (area xs) ≡ true = column_is xs inside ∙ straight (is_outside xs.0 || is_outside xs.1) (xs.0.column == xs.1.column) eb inside in
@@ -322,13 +320,13 @@ module _ (s : State) (f r : Cell) (xs : Corners) where
 pub one_is_bad : (f r : Result ℕ AddressFault) (xs : Result Area AddressFault) → list_any is_shape (result_err f ∷ result_err r ∷ line_fault is_column xs ∷ []) ≡ true
     → table_of_one f r xs ≡ call.Refused refusal.BadCommand
 one_is_bad f r xs h =
-    let command : call.Call = of_operand f (λ f. of_operand r (λ r. of_operand xs (λ xs. call.Table f r xs None))) in
+    let command : call.Call = of_operand f (λ f. of_operand r (λ r. of_operand xs (λ xs. call.Placed (Table (cell f) (cell r) (corners xs) None)))) in
     ap (λ (y : Option AddressFault). unless_refused (worse (result_err f) (worse (result_err r) y)) command) (last_one (line_fault is_column xs))
     ∙ ap (λ (w : Option AddressFault). unless_refused w command) (shape_first (result_err f ∷ result_err r ∷ line_fault is_column xs ∷ []) h)
 
 pub two_is_bad : (f r : Result ℕ AddressFault) (xs : Result Area AddressFault) (c : Result ℕ AddressFault) (ys : Result Area AddressFault)
     → list_any is_shape (result_err f ∷ result_err r ∷ line_fault is_column xs ∷ result_err c ∷ line_fault is_row ys ∷ []) ≡ true → table_of_two f r xs c ys ≡ call.Refused refusal.BadCommand
 two_is_bad f r xs c ys h =
-    let command : call.Call = of_operand f (λ f. of_operand r (λ r. of_operand xs (λ xs. of_operand c (λ c. of_operand ys (λ ys. call.Table f r xs (Some (c, ys))))))) in
+    let command : call.Call = of_operand f (λ f. of_operand r (λ r. of_operand xs (λ xs. of_operand c (λ c. of_operand ys (λ ys. call.Placed (Table (cell f) (cell r) (corners xs) (Some (cell c, corners ys)))))))) in
     ap (λ (y : Option AddressFault). unless_refused (worse (result_err f) (worse (result_err r) (worse (line_fault is_column xs) (worse (result_err c) y)))) command) (last_one (line_fault is_row ys))
     ∙ ap (λ (w : Option AddressFault). unless_refused w command) (shape_first (result_err f ∷ result_err r ∷ line_fault is_column xs ∷ result_err c ∷ line_fault is_row ys ∷ []) h)

@@ -1,6 +1,7 @@
 -- The command that a text spells, and the form that it has.
 use Rattle.wi_cli.proofs.Vocabulary.{◌≡◌, Bool, true, false, List, [], ◌∷◌, inl, inr, Option, Some, None, refl, sym, ap, ◌∙◌, subst, codes, both_ways, first_word, after_word, Bytes, set_command, clear_command, fill_command, edit_command, scenario_command, drop_command, base_command, use_command, as_command, show_command, export_command, changes_command, compare_command, formula_command, table_command, named_command, spelled_command, Cell, Corners, Operand, WORD, RECT, NAME, SESSION, IsWritten, Command, Set, Clear, Fill, Csv, Scenario, Drop, Base, Use, As, Show, Export, Compare, Table, Formula, Changes, Unknown, Unreadable, form, call_of}
 use Rattle.wi_scenarios.specs.declared.refusal.Refusal.TheVariants as refusal
+use Rattle.wi_scenarios.specs.Commands.Operands.{corners}
 use Rattle.wi_cli.specs.Inner.Calls as call
 use Rattle.wi_cli.proofs.Ties.CommandNames.{Name, FORCE, SCENARIO, DROP, BASE, USE, AS, SHOW, EXPORT, CHANGES, COMPARE, TABLE, FORMULA, SET, CLEAR, FILL, edit_name, name_in, Edit, set_edit, clear_edit, fill_edit, no_edit, edit_of, Word, a_force, a_scenario, a_drop, a_base, a_use, a_as, a_show, a_export, a_changes, a_compare, a_table, a_formula, an_edit, word_of}
 use Rattle.wi_cli.proofs.Ties.Forms.{Chosen, same_rect_end, rect_end, same_name_end, name_end, maybe_form, set_form, same_set, set_or, fill_form, same_fill, fill_or, cell_form, same_formula, formula_or, scenario_form, same_scenario, scenario_or, base_form, same_base, base_or, same_use, use_or, no_form, same_changes, changes_or, compare_form, same_compare, compare_or, table_form, same_table, table_or}
@@ -20,24 +21,24 @@ same_form text (Set false at t) p h = ap (λ (w : Bytes). named_command w (after
 same_form text (Set true at t) p h =
     ap (λ (w : Bytes). named_command w (after_word text)) h.0 ∙ ap (λ (w : Bytes). edit_command true w (after_word (after_word text))) h.1.0
     ∙ same_set true (after_word (after_word text)) (at, t) h.1.1
-same_form text (Clear false r) p h = ap (λ (w : Bytes). named_command w (after_word text)) h.0 ∙ same_rect_end (λ a. call.Clear false a) (after_word text) r h.1
+same_form text (Clear false r) p h = ap (λ (w : Bytes). named_command w (after_word text)) h.0 ∙ same_rect_end (λ a. call.Placed (Clear false (corners a))) (after_word text) r h.1
 same_form text (Clear true r) p h =
     ap (λ (w : Bytes). named_command w (after_word text)) h.0 ∙ ap (λ (w : Bytes). edit_command true w (after_word (after_word text))) h.1.0
-    ∙ same_rect_end (λ a. call.Clear true a) (after_word (after_word text)) r h.1.1
+    ∙ same_rect_end (λ a. call.Placed (Clear true (corners a))) (after_word (after_word text)) r h.1.1
 same_form text (Fill false at r) p h = ap (λ (w : Bytes). named_command w (after_word text)) h.0 ∙ same_fill false (after_word text) (at, r) h.1
 same_form text (Fill true at r) p h =
     ap (λ (w : Bytes). named_command w (after_word text)) h.0 ∙ ap (λ (w : Bytes). edit_command true w (after_word (after_word text))) h.1.0
     ∙ same_fill true (after_word (after_word text)) (at, r) h.1.1
 same_form text (Csv force at n lines) p h = absurd (both_ways false refl p)
 same_form text (Scenario name at t) p h = ap (λ (w : Bytes). named_command w (after_word text)) h.0 ∙ same_scenario (after_word text) (name, at, t) h.1
-same_form text (Drop name) p h = ap (λ (w : Bytes). named_command w (after_word text)) h.0 ∙ same_name_end (λ n. call.Drop n) (after_word text) name h.1
+same_form text (Drop name) p h = ap (λ (w : Bytes). named_command w (after_word text)) h.0 ∙ same_name_end (λ n. call.Placed (Drop n)) (after_word text) name h.1
 same_form text (Base name None) p h = ap (λ (w : Bytes). named_command w (after_word text)) h.0 ∙ same_base (after_word text) (name, None) h.1
 same_form text (Base name (Some other)) p h = ap (λ (w : Bytes). named_command w (after_word text)) h.0 ∙ same_base (after_word text) (name, Some other) h.1
 same_form text (Use None) p h = ap (λ (w : Bytes). named_command w (after_word text)) h.0 ∙ same_use (after_word text) None h.1
 same_form text (Use (Some name)) p h = ap (λ (w : Bytes). named_command w (after_word text)) h.0 ∙ same_use (after_word text) (Some name) h.1
-same_form text (As name) p h = ap (λ (w : Bytes). named_command w (after_word text)) h.0 ∙ same_name_end (λ n. call.As n) (after_word text) name h.1
-same_form text (Show r) p h = ap (λ (w : Bytes). named_command w (after_word text)) h.0 ∙ same_rect_end (λ a. call.Show a) (after_word text) r h.1
-same_form text (Export r) p h = ap (λ (w : Bytes). named_command w (after_word text)) h.0 ∙ same_rect_end (λ a. call.Export a) (after_word text) r h.1
+same_form text (As name) p h = ap (λ (w : Bytes). named_command w (after_word text)) h.0 ∙ same_name_end (λ n. call.Placed (As n)) (after_word text) name h.1
+same_form text (Show r) p h = ap (λ (w : Bytes). named_command w (after_word text)) h.0 ∙ same_rect_end (λ a. call.Placed (Show (corners a))) (after_word text) r h.1
+same_form text (Export r) p h = ap (λ (w : Bytes). named_command w (after_word text)) h.0 ∙ same_rect_end (λ a. call.Placed (Export (corners a))) (after_word text) r h.1
 same_form text (Compare a b r) p h = ap (λ (w : Bytes). named_command w (after_word text)) h.0 ∙ same_compare (after_word text) (a, b, r) h.1
 same_form text (Table f r xs None) p h = ap (λ (w : Bytes). named_command w (after_word text)) h.0 ∙ same_table (after_word text) f r xs None h.1
 same_form text (Table f r xs (Some y)) p h = ap (λ (w : Bytes). named_command w (after_word text)) h.0 ∙ same_table (after_word text) f r xs (Some y) h.1
@@ -157,7 +158,7 @@ module _ (text : Bytes) where
 
   by_edit : (w : Bytes) → Edit w → first_word text ≡ codes "force" → first_word operands ≡ w → Reads text
   by_edit w set_edit e f = pick_forced (codes "set") set_form (set_command true edited) (λ x. Set true x.0 x.1) e f (set_or true edited) (λ x. refl) (λ x. refl) (λ h. h) refl
-  by_edit w clear_edit e f = pick_forced (codes "clear") (λ r. RECT r ∷ []) (clear_command true edited) (λ r. Clear true r) e f (rect_end (λ a. call.Clear true a) edited) (λ x. refl) (λ x. refl) (λ h. h) refl
+  by_edit w clear_edit e f = pick_forced (codes "clear") (λ r. RECT r ∷ []) (clear_command true edited) (λ r. Clear true r) e f (rect_end (λ a. call.Placed (Clear true (corners a))) edited) (λ x. refl) (λ x. refl) (λ h. h) refl
   by_edit w fill_edit e f = pick_forced (codes "fill") fill_form (fill_command true edited) (λ x. Fill true x.0 x.1) e f (fill_or true edited) (λ x. refl) (λ x. refl) (λ h. h) refl
   by_edit w (no_edit v bad other) e f =
       refused (codes "force") e (subst (λ (u : Bytes). NoEdit (edit_name u) edited) (sym f) (subst (λ (n : Name). NoEdit n edited) (sym other) tt))
@@ -165,7 +166,7 @@ module _ (text : Bytes) where
 
   by_plain_edit : (w : Bytes) → Edit w → first_word text ≡ w → ((more : Bytes) → named_command w more ≡ edit_command false w more) → name_in w ≡ edit_name w → Reads text
   by_plain_edit w set_edit e named same = pick (codes "set") set_form (set_command false operands) (λ x. Set false x.0 x.1) e (set_or false operands) (λ x. refl) (λ x. refl) (λ h. h) refl
-  by_plain_edit w clear_edit e named same = pick (codes "clear") (λ r. RECT r ∷ []) (clear_command false operands) (λ r. Clear false r) e (rect_end (λ a. call.Clear false a) operands) (λ x. refl) (λ x. refl) (λ h. h) refl
+  by_plain_edit w clear_edit e named same = pick (codes "clear") (λ r. RECT r ∷ []) (clear_command false operands) (λ r. Clear false r) e (rect_end (λ a. call.Placed (Clear false (corners a))) operands) (λ x. refl) (λ x. refl) (λ h. h) refl
   by_plain_edit w fill_edit e named same = pick (codes "fill") fill_form (fill_command false operands) (λ x. Fill false x.0 x.1) e (fill_or false operands) (λ x. refl) (λ x. refl) (λ h. h) refl
   by_plain_edit w (no_edit v bad other) e named same =
       refused v e (subst (λ (n : Name). NoForm n operands) (sym (same ∙ other)) tt) (named operands ∙ bad false operands)
@@ -173,12 +174,12 @@ module _ (text : Bytes) where
   by_word : (w : Bytes) → Word w → first_word text ≡ w → Reads text
   by_word w a_force e = by_edit (first_word operands) (edit_of (first_word operands)) e refl
   by_word w a_scenario e = pick (codes "scenario") scenario_form (scenario_command operands) (λ x. Scenario x.0 x.1 x.2) e (scenario_or operands) (λ x. refl) (λ x. refl) (λ h. h) refl
-  by_word w a_drop e = pick (codes "drop") (λ n. NAME n ∷ []) (drop_command operands) (λ n. Drop n) e (name_end (λ n. call.Drop n) operands) (λ x. refl) (λ x. refl) (λ h. h) refl
+  by_word w a_drop e = pick (codes "drop") (λ n. NAME n ∷ []) (drop_command operands) (λ n. Drop n) e (name_end (λ n. call.Placed (Drop n)) operands) (λ x. refl) (λ x. refl) (λ h. h) refl
   by_word w a_base e = pick (codes "base") base_form (base_command operands) (λ x. Base x.0 x.1) e (base_or operands) base_same (λ x. refl) (λ h. h) refl
   by_word w a_use e = pick (codes "use") maybe_form (use_command operands) (λ o. Use o) e (use_or operands) use_same (λ x. refl) (λ h. h) refl
-  by_word w a_as e = pick (codes "as") (λ n. SESSION n ∷ []) (as_command operands) (λ n. As n) e (name_end (λ n. call.As n) operands) (λ x. refl) (λ x. refl) (λ h. h) refl
-  by_word w a_show e = pick (codes "show") (λ r. RECT r ∷ []) (show_command operands) (λ r. Show r) e (rect_end (λ a. call.Show a) operands) (λ x. refl) (λ x. refl) (λ h. h) refl
-  by_word w a_export e = pick (codes "export") (λ r. RECT r ∷ []) (export_command operands) (λ r. Export r) e (rect_end (λ a. call.Export a) operands) (λ x. refl) (λ x. refl) (λ h. h) refl
+  by_word w a_as e = pick (codes "as") (λ n. SESSION n ∷ []) (as_command operands) (λ n. As n) e (name_end (λ n. call.Placed (As n)) operands) (λ x. refl) (λ x. refl) (λ h. h) refl
+  by_word w a_show e = pick (codes "show") (λ r. RECT r ∷ []) (show_command operands) (λ r. Show r) e (rect_end (λ a. call.Placed (Show (corners a))) operands) (λ x. refl) (λ x. refl) (λ h. h) refl
+  by_word w a_export e = pick (codes "export") (λ r. RECT r ∷ []) (export_command operands) (λ r. Export r) e (rect_end (λ a. call.Placed (Export (corners a))) operands) (λ x. refl) (λ x. refl) (λ h. h) refl
   by_word w a_changes e = pick (codes "changes") no_form (changes_command operands) (λ x. Changes) e (changes_or operands) (λ x. refl) (λ x. refl) (λ h. h) refl
   by_word w a_compare e = pick (codes "compare") compare_form (compare_command operands) (λ x. Compare x.0 x.1 x.2) e (compare_or operands) (λ x. refl) (λ x. refl) (λ h. h) refl
   by_word w a_table e = pick (codes "table") table_form (table_command operands) (λ x. Table x.0 x.1 x.2 x.3) e (table_or operands) table_same (λ x. refl) (λ h. h) refl

@@ -6,7 +6,9 @@ use Rattle.wi_values.specs.Address.{Area}
 use Rattle.wi_values.specs.AddressReading.{read_address, read_rect}
 use Rattle.wi_values.specs.declared.address.AddressFault.{AddressFault}
 use Rattle.wi_scenarios.specs.declared.refusal.Refusal.TheVariants.{BadCommand}
-use Rattle.wi_cli.specs.Inner.Calls.{Call, Set, Clear, Fill, Refused}
+use Rattle.wi_scenarios.specs.Commands.Operands.{cell, corners}
+use Rattle.wi_scenarios.specs.Commands.Command.{Set, Clear, Fill}
+use Rattle.wi_cli.specs.Inner.Calls.{Call, Placed, Refused}
 use Rattle.wi_cli.specs.Lines.{first_word, after_word}
 use Rattle.wi_cli.specs.Inner.Operands.{at_end, of_operand, worse, unless_refused}
 
@@ -14,15 +16,15 @@ use Rattle.wi_cli.specs.Inner.Operands.{at_end, of_operand, worse, unless_refuse
 abbrev pub set_command : Bool → List ℕ → Call
 set_command force operands =
     if length (after_word operands) == 0 then Refused BadCommand
-    else of_operand (read_address (first_word operands)) (λ at. Set force at (after_word operands))
+    else of_operand (read_address (first_word operands)) (λ at. Placed (Set force (cell at) (after_word operands)))
 
 -- `clear RECT`
 abbrev pub clear_command : Bool → List ℕ → Call
-clear_command force operands = at_end (after_word operands) (of_operand (read_rect (first_word operands)) (λ area. Clear force area))
+clear_command force operands = at_end (after_word operands) (of_operand (read_rect (first_word operands)) (λ area. Placed (Clear force (corners area))))
 
 abbrev pub fill_command_of : Bool → Result ℕ AddressFault → Result Area AddressFault → Call
 fill_command_of force from area =
-    unless_refused (worse (result_err from) (result_err area)) (of_operand from (λ from. of_operand area (λ area. Fill force from area)))
+    unless_refused (worse (result_err from) (result_err area)) (of_operand from (λ from. of_operand area (λ area. Placed (Fill force (cell from) (corners area)))))
 
 -- `fill ADDR RECT`
 abbrev pub fill_command : Bool → List ℕ → Call

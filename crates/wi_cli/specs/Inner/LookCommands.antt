@@ -1,21 +1,23 @@
 -- The commands that show what a workbook holds.
 use Rattle.std.specs.Prelude.{ℕ, List}
 use Rattle.wi_values.specs.AddressReading.{read_address, read_rect}
-use Rattle.wi_cli.specs.Inner.Calls.{Call, Show, Export, Changes, Compare, Formula}
+use Rattle.wi_scenarios.specs.Commands.Operands.{cell, corners}
+use Rattle.wi_scenarios.specs.Commands.Command.{Show, Export, Changes, Compare, Formula}
+use Rattle.wi_cli.specs.Inner.Calls.{Call, Placed}
 use Rattle.wi_cli.specs.Lines.{first_word, after_word}
 use Rattle.wi_cli.specs.Inner.Operands.{at_end, of_operand, of_name, read_side}
 
 -- `show RECT`
 abbrev pub show_command : List ℕ → Call
-show_command operands = at_end (after_word operands) (of_operand (read_rect (first_word operands)) (λ area. Show area))
+show_command operands = at_end (after_word operands) (of_operand (read_rect (first_word operands)) (λ area. Placed (Show (corners area))))
 
 -- `export RECT`
 abbrev pub export_command : List ℕ → Call
-export_command operands = at_end (after_word operands) (of_operand (read_rect (first_word operands)) (λ area. Export area))
+export_command operands = at_end (after_word operands) (of_operand (read_rect (first_word operands)) (λ area. Placed (Export (corners area))))
 
 -- `changes`
 abbrev pub changes_command : List ℕ → Call
-changes_command operands = at_end operands Changes
+changes_command operands = at_end operands (Placed Changes)
 
 -- `compare S T RECT`, where S and T are names of scenarios, or `-`
 abbrev pub compare_command : List ℕ → Call
@@ -23,8 +25,8 @@ compare_command operands =
     at_end (after_word (after_word (after_word operands)))
     (of_name (read_side (first_word operands)) (λ first.
     of_name (read_side (first_word (after_word operands))) (λ second.
-    of_operand (read_rect (first_word (after_word (after_word operands)))) (λ area. Compare first second area))))
+    of_operand (read_rect (first_word (after_word (after_word operands)))) (λ area. Placed (Compare first second (corners area))))))
 
 -- `formula ADDR`
 abbrev pub formula_command : List ℕ → Call
-formula_command operands = at_end (after_word operands) (of_operand (read_address (first_word operands)) (λ at. Formula at))
+formula_command operands = at_end (after_word operands) (of_operand (read_address (first_word operands)) (λ at. Placed (Formula (cell at))))

@@ -2,7 +2,9 @@
 use Rattle.std.specs.Prelude.{ℕ, List}
 use Rattle.wi_values.specs.AddressReading.{read_address}
 use Rattle.wi_values.specs.Name.{read_name}
-use Rattle.wi_cli.specs.Inner.Calls.{Call, Scenario, Drop, Base, Use, As}
+use Rattle.wi_scenarios.specs.Commands.Operands.{cell}
+use Rattle.wi_scenarios.specs.Commands.Command.{Scenario, Drop, Base, Use, As}
+use Rattle.wi_cli.specs.Inner.Calls.{Call, Placed}
 use Rattle.wi_cli.specs.Lines.{first_word, after_word}
 use Rattle.wi_cli.specs.Inner.Operands.{of_operand, of_name, only_name, name_or_none}
 
@@ -10,21 +12,21 @@ use Rattle.wi_cli.specs.Inner.Operands.{of_operand, of_name, only_name, name_or_
 abbrev pub scenario_command : List ℕ → Call
 scenario_command operands =
     of_name (read_name (first_word operands)) (λ name.
-    of_operand (read_address (first_word (after_word operands))) (λ at. Scenario name at (after_word (after_word operands))))
+    of_operand (read_address (first_word (after_word operands))) (λ at. Placed (Scenario name (cell at) (after_word (after_word operands)))))
 
 -- `drop NAME`
 abbrev pub drop_command : List ℕ → Call
-drop_command operands = of_name (only_name operands) (λ name. Drop name)
+drop_command operands = of_name (only_name operands) (λ name. Placed (Drop name))
 
 -- `base NAME OTHER`, and `base NAME`
 abbrev pub base_command : List ℕ → Call
 base_command operands =
-    of_name (read_name (first_word operands)) (λ name. of_name (name_or_none (after_word operands)) (λ other. Base name other))
+    of_name (read_name (first_word operands)) (λ name. of_name (name_or_none (after_word operands)) (λ other. Placed (Base name other)))
 
 -- `use NAME`, and `use`
 abbrev pub use_command : List ℕ → Call
-use_command operands = of_name (name_or_none operands) (λ name. Use name)
+use_command operands = of_name (name_or_none operands) (λ name. Placed (Use name))
 
 -- `as SESSION`
 abbrev pub as_command : List ℕ → Call
-as_command operands = of_name (only_name operands) (λ name. As name)
+as_command operands = of_name (only_name operands) (λ name. Placed (As name))
