@@ -11,7 +11,8 @@ use Rattle.wi_values.specs.declared.value.ErrorKind.{ErrorKind}
 use Rattle.wi_values.specs.declared.value.ErrorKind.TheVariants.{BadValue}
 use Rattle.wi_values.specs.declared.value.Value.{Value}
 use Rattle.wi_values.specs.declared.value.Value.TheVariants.{Empty}
-use Rattle.wi_standard_functions.specs.Arguments.{Argument, Region, region_at, region_or, region_referred, value_or}
+use Rattle.wi_standard_functions.specs.Arguments.{Argument, Region, region_at, region_referred, value_or}
+use Rattle.wi_standard_functions.specs.Inner.Named.{region_or}
 use Rattle.wi_arguments.specs.declared.argument.Argument as given
 use Rattle.wi_arguments.specs.Arguments.{argument_in, arguments_in, area_at, area_referred, region_in, refers_to, IsReferred, KnownAgrees}
 

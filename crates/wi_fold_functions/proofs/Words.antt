@@ -25,11 +25,10 @@ pub use Rattle.wi_standard_functions.specs.Arguments.{Argument}
 pub use Rattle.wi_standard_functions.specs.Arithmetic.{addition, division, multiplication, whole_number, whole_value}
 pub use Rattle.wi_standard_functions.specs.Convert.{one_number, zero_number}
 pub use Rattle.wi_standard_functions.specs.Information.{is_empty_value, is_number_value}
-pub use Rattle.wi_standard_functions.specs.Inner.Named.{and_value, count_a_value, count_value, greater_number, max_value, min_value, numbers_of, or_value, product_value, smaller_number, sum_value, with_number}
-pub use Rattle.wi_standard_functions.specs.Logical.{tested}
+pub use Rattle.wi_standard_functions.specs.Inner.Named.{and_value, count_a_value, count_value, fold_until_error, greater_number, max_value, min_value, numbers_of, or_value, product_value, smaller_number, sum_value, tested, with_number}
 pub use Rattle.wi_standard_functions.specs.Sequence.{Item, all_that_count, from_cell, logical_of_item, number_fold, number_of_item, sequence_of, value_of_item}
 pub use Rattle.wi_standard_functions.specs.Statistical.{average_value}
-pub use Rattle.wi_standard_functions.specs.Steps.{and_then, fold_until_error, map_until_error, ◌>>=◌}
+pub use Rattle.wi_standard_functions.specs.Steps.{and_then, map_until_error, ◌>>=◌}
 pub use Rattle.wi_value_functions.proofs.Counts.{cut_counted, cut_more, cut_number, cut_value, none_cut}
 pub use Rattle.wi_value_functions.specs.Inner.Counts.{IsCut, counted}
 pub use Rattle.wi_values.specs.Address.{Area, cells_of}

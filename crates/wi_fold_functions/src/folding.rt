@@ -6,7 +6,7 @@ ghost use Rattle.std.proofs.Common.{ap};
 ghost use Rattle.wi_values.specs.declared.value.ErrorKind.{ErrorKind as ErrorKinds};
 ghost use Rattle.wi_values.specs.declared.value.Value.{Value as Values};
 ghost use Rattle.wi_standard_functions.specs.Sequence.{from_cell, sequence_of};
-ghost use Rattle.wi_standard_functions.specs.Steps.{fold_until_error};
+ghost use Rattle.wi_standard_functions.specs.Inner.Named.{fold_until_error};
 ghost use Rattle.wi_arguments.specs.Arguments.{argument_in, arguments_in, refers_to, KnownAgrees, IsMissing};
 ghost use Rattle.wi_fold_functions.specs.Inner.Items.{item_of, items_of, go_on, go_on_through, shown};
 ghost use Rattle.wi_fold_functions.specs.Inner.Items.Laws.{empty_passed};

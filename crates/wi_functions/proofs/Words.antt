@@ -42,8 +42,7 @@ pub use Rattle.wi_parser.specs.declared.expr.Operator.TheVariants.{Add}
 pub use Rattle.wi_standard_functions.specs.Arguments.{Argument, value_at, value_or}
 pub use Rattle.wi_standard_functions.specs.Convert.{to_whole}
 pub use Rattle.wi_standard_functions.specs.Functions.{call_value}
-pub use Rattle.wi_standard_functions.specs.Inner.Named.{argument_of}
-pub use Rattle.wi_standard_functions.specs.Lookup.{choose_value, chosen}
+pub use Rattle.wi_standard_functions.specs.Inner.Named.{argument_of, choose_of, chosen}
 pub use Rattle.wi_standard_functions.specs.Steps.{◌>>=◌}
 pub use Rattle.wi_value_functions.proofs.ValuesAlone.{values_alone}
 pub use Rattle.wi_value_functions.specs.Applied.{applied_to_arguments, applied_to_values}

@@ -1,5 +1,5 @@
 -- What SUMIF adds.
-use Rattle.wi_lookup_functions.proofs.Words.{◌≡◌, ℕ, Bool, true, false, cond, ◌||◌, List, [], ◌∷◌, map, filter, fold, Option, Some, None, IfSome, refl, sym, ap, ◌∙◌, subst, Result, zip, if◌then◌else◌, list_any, or_left, or_right, Area, cells_of, is_within, ErrorKind, BadValue, Value, Empty, Number, Argument, Region, region_of, region_at, region_or, value_at, addition, zero_number, no_error, same_size, meets_is, criterion_of, is_met_by, chosen_cells, sum_of_items, sum_if_value, Item, from_cell, number_of_item, with_number, ◌>>=◌, and_then, Missing, Memory, arguments_in, refers_to, KnownAgrees, region_in, IsReferred, IsNextFilled, after_cells, IsNextAfter, known_agrees, taken_for_known, Criterion, criterion_held, is_met, empty_meets_none, Stop, NoValue, Error, Stopped, criterion_argument, Agrees, Gives, same_extent, same_place, values_where, with_cell, with_met, IsMissingInEither}
+use Rattle.wi_lookup_functions.proofs.Words.{◌≡◌, ℕ, Bool, true, false, cond, ◌||◌, List, [], ◌∷◌, map, filter, fold, Option, Some, None, IfSome, refl, sym, ap, ◌∙◌, subst, Result, zip, if◌then◌else◌, list_any, or_left, or_right, Area, cells_of, is_within, ErrorKind, BadValue, Value, Empty, Number, Argument, Region, region_of, region_at, region_or, value_at, addition, zero_number, no_error, same_size, meets_is, criterion_of, is_met_by, chosen_cells, sum_of_items, sum_if_by, Item, from_cell, number_of_item, with_number, ◌>>=◌, and_then, Missing, Memory, arguments_in, refers_to, KnownAgrees, region_in, IsReferred, IsNextFilled, after_cells, IsNextAfter, known_agrees, taken_for_known, Criterion, criterion_held, is_met, empty_meets_none, Stop, NoValue, Error, Stopped, criterion_argument, Agrees, Gives, same_extent, same_place, values_where, with_cell, with_met, IsMissingInEither}
 use Rattle.std.specs.Prelude.{Ok, Err}
 use Rattle.wi_fraction.specs.Number as numbers
 use Rattle.wi_standard_functions.specs.Inner.Criteria as defined
@@ -117,13 +117,13 @@ from_criterion args r d = region_or (Ok r) args 2 >>= (λ s. summed d r s)
 by_tests : (args : List Argument) (r : Region) → (no_error (value_at args 1) >>= (λ w. region_or (Ok r) args 2 >>= (λ s. chosen_cells w r s >>= (λ items. sum_of_items items >>= (λ x. Number x))))) ≡ (no_error (value_at args 1) >>= (λ w. from_criterion args r (criterion_of w)))
 by_tests args r = λ i. no_error (value_at args 1) >>= (λ w. region_or (Ok r) args 2 >>= (λ s. (if same_size r s then Ok (values_where (λ v. meets_is w v i) r.values s.values) else Err BadValue) >>= (λ items. sum_of_items items >>= (λ x. Number x))))
 
-at_region : (args : List Argument) (o : Result Region ErrorKind) → region_at args 0 ≡ o → sum_if_value args ≡ (o >>= from_region args)
+at_region : (args : List Argument) (o : Result Region ErrorKind) → region_at args 0 ≡ o → sum_if_by args ≡ (o >>= from_region args)
 at_region args o h = ap (λ (p : Result Region ErrorKind). p >>= from_region args) h
 
-at_criterion : (args : List Argument) (r : Region) (q : Result defined.Criterion ErrorKind) → region_at args 0 ≡ Ok r → criterion_argument (value_at args 1) ≡ q → sum_if_value args ≡ (q >>= from_criterion args r)
+at_criterion : (args : List Argument) (r : Region) (q : Result defined.Criterion ErrorKind) → region_at args 0 ≡ Ok r → criterion_argument (value_at args 1) ≡ q → sum_if_by args ≡ (q >>= from_criterion args r)
 at_criterion args r q h k = at_region args (Ok r) h ∙ by_tests args r ∙ by_criterion (no_error (value_at args 1)) (from_criterion args r) ∙ ap (λ (p : Result defined.Criterion ErrorKind). p >>= from_criterion args r) k
 
-at_added : (args : List Argument) (r : Region) (d : defined.Criterion) (p : Result Region ErrorKind) → region_at args 0 ≡ Ok r → criterion_argument (value_at args 1) ≡ Ok d → region_or (Ok r) args 2 ≡ p → sum_if_value args ≡ (p >>= (λ s. summed d r s))
+at_added : (args : List Argument) (r : Region) (d : defined.Criterion) (p : Result Region ErrorKind) → region_at args 0 ≡ Ok r → criterion_argument (value_at args 1) ≡ Ok d → region_or (Ok r) args 2 ≡ p → sum_if_by args ≡ (p >>= (λ s. summed d r s))
 at_added args r d p h k m = at_criterion args r (Ok d) h k ∙ ap (λ (o : Result Region ErrorKind). o >>= (λ s. summed d r s)) m
 
 module _ (known : ℕ → Option Value) (args : List given.Argument) where
@@ -135,41 +135,41 @@ module _ (known : ℕ → Option Value) (args : List given.Argument) where
   abbrev pub IsAdded : Area → Result Area ErrorKind → Type 0
   IsAdded r s = (cells : ℕ → Value) → region_or (region_in cells (Ok r)) (arguments_in cells args) 2 ≡ region_in cells s
 
-  pub ends_at_area : (e : ErrorKind) (x : NoValue (Stop ℕ)) → x ≡ Error e → IsAreaAt (Err e) → Gives known sum_if_value args (Err x)
-  ends_at_area e x m h = subst (λ (y : NoValue (Stop ℕ)). Gives known sum_if_value args (Err y)) (sym m) (λ cells k. sym (at_region (arguments_in cells args) (Err e) (h cells)))
+  pub ends_at_area : (e : ErrorKind) (x : NoValue (Stop ℕ)) → x ≡ Error e → IsAreaAt (Err e) → Gives known sum_if_by args (Err x)
+  ends_at_area e x m h = subst (λ (y : NoValue (Stop ℕ)). Gives known sum_if_by args (Err y)) (sym m) (λ cells k. sym (at_region (arguments_in cells args) (Err e) (h cells)))
 
-  pub ends_at_criterion : (r : Area) (y x : NoValue (Stop ℕ)) → x ≡ y → IsAreaAt (Ok r) → IsCriterionAt known args 1 (Err y) → Gives known sum_if_value args (Err x)
-  ends_at_criterion r y x m h g = subst (λ (z : NoValue (Stop ℕ)). Gives known sum_if_value args (Err z)) (sym m) (at y g)
+  pub ends_at_criterion : (r : Area) (y x : NoValue (Stop ℕ)) → x ≡ y → IsAreaAt (Ok r) → IsCriterionAt known args 1 (Err y) → Gives known sum_if_by args (Err x)
+  ends_at_criterion r y x m h g = subst (λ (z : NoValue (Stop ℕ)). Gives known sum_if_by args (Err z)) (sym m) (at y g)
     where
-      at : (z : NoValue (Stop ℕ)) → IsCriterionAt known args 1 (Err z) → Gives known sum_if_value args (Err z)
+      at : (z : NoValue (Stop ℕ)) → IsCriterionAt known args 1 (Err z) → Gives known sum_if_by args (Err z)
       at (Error e) k = λ cells a. sym (at_criterion (arguments_in cells args) (region_of cells r) (Err e) (h cells) (k cells a))
       at (Stopped s) k = k
 
   module _ (r : Area) (c : Criterion) (first : IsAreaAt (Ok r)) (second : IsCriterionAt known args 1 (Ok c)) where
-    pub ends_at_added : (e : ErrorKind) (x : NoValue (Stop ℕ)) → x ≡ Error e → IsAdded r (Err e) → Gives known sum_if_value args (Err x)
-    ends_at_added e x m h = subst (λ (y : NoValue (Stop ℕ)). Gives known sum_if_value args (Err y)) (sym m) (λ cells k. sym (at_added (arguments_in cells args) (region_of cells r) (criterion_held c) (Err e) (first cells) (second cells k) (h cells)))
+    pub ends_at_added : (e : ErrorKind) (x : NoValue (Stop ℕ)) → x ≡ Error e → IsAdded r (Err e) → Gives known sum_if_by args (Err x)
+    ends_at_added e x m h = subst (λ (y : NoValue (Stop ℕ)). Gives known sum_if_by args (Err y)) (sym m) (λ cells k. sym (at_added (arguments_in cells args) (region_of cells r) (criterion_held c) (Err e) (first cells) (second cells k) (h cells)))
 
     module _ (s : Area) (third : IsAdded r (Ok s)) where
       at_size : (b : Bool) → same_extent r s ≡ b → (cells : ℕ → Value) → KnownAgrees known cells →
-          sum_if_value (arguments_in cells args) ≡ ((if b then Ok (values_where (is_met c) (region_of cells r).values (region_of cells s).values) else Err BadValue) >>= (λ items. sum_of_items items >>= (λ x. Number x)))
+          sum_if_by (arguments_in cells args) ≡ ((if b then Ok (values_where (is_met c) (region_of cells r).values (region_of cells s).values) else Err BadValue) >>= (λ items. sum_of_items items >>= (λ x. Number x)))
       at_size b e cells k =
           at_added (arguments_in cells args) (region_of cells r) (criterion_held c) (Ok (region_of cells s)) (first cells) (second cells k) (third cells)
           ∙ ap (λ (d : Bool). (if d then Ok (values_where (is_met c) (region_of cells r).values (region_of cells s).values) else Err BadValue) >>= (λ items. sum_of_items items >>= (λ x. Number x))) e
 
-      pub ends_at_size : same_extent r s ≡ false → Gives known sum_if_value args (Err (Error BadValue))
+      pub ends_at_size : same_extent r s ≡ false → Gives known sum_if_by args (Err (Error BadValue))
       ends_at_size e = λ cells k. sym (at_size false e cells k)
 
-      pub ends_summed : same_extent r s ≡ true → (x : numbers.Number) → Agrees known (IsMissingInEither known r s) (λ (z : numbers.Number). z) (sum_where known c r s) (Ok x) → Gives known sum_if_value args (Ok (Number x))
+      pub ends_summed : same_extent r s ≡ true → (x : numbers.Number) → Agrees known (IsMissingInEither known r s) (λ (z : numbers.Number). z) (sum_where known c r s) (Ok x) → Gives known sum_if_by args (Ok (Number x))
       ends_summed e x g = λ cells k. sym (at_size true e cells k ∙ ap (λ (p : Result numbers.Number ErrorKind). p >>= (λ y. Number y)) (g cells k))
 
-      pub ends_in_sum : same_extent r s ≡ true → IsReferred args r → IsReferred args s → (y x : NoValue (Stop ℕ)) → x ≡ y → Agrees known (IsMissingInEither known r s) (λ (z : numbers.Number). z) (sum_where known c r s) (Err y) → Gives known sum_if_value args (Err x)
-      ends_in_sum e f g y x m h = subst (λ (z : NoValue (Stop ℕ)). Gives known sum_if_value args (Err z)) (sym m) (at y h)
+      pub ends_in_sum : same_extent r s ≡ true → IsReferred args r → IsReferred args s → (y x : NoValue (Stop ℕ)) → x ≡ y → Agrees known (IsMissingInEither known r s) (λ (z : numbers.Number). z) (sum_where known c r s) (Err y) → Gives known sum_if_by args (Err x)
+      ends_in_sum e f g y x m h = subst (λ (z : NoValue (Stop ℕ)). Gives known sum_if_by args (Err z)) (sym m) (at y h)
         where
           in_one : (d : ℕ) (a b : Bool) → is_within r d ≡ a → is_within s d ≡ b → (a || b) ≡ true → list_any (refers_to d) args ≡ true
           in_one d true b i j k = f d i
           in_one d false b i j k = g d (j ∙ k)
 
-          at : (z : NoValue (Stop ℕ)) → Agrees known (IsMissingInEither known r s) (λ (n : numbers.Number). n) (sum_where known c r s) (Err z) → Gives known sum_if_value args (Err z)
+          at : (z : NoValue (Stop ℕ)) → Agrees known (IsMissingInEither known r s) (λ (n : numbers.Number). n) (sum_where known c r s) (Err z) → Gives known sum_if_by args (Err z)
           at (Error n) q = λ cells k. sym (at_size true e cells k ∙ ap (λ (p : Result numbers.Number ErrorKind). p >>= (λ w. Number w)) (q cells k))
           at (Stopped (Missing d)) q = (q.0, in_one d (is_within r d) (is_within s d) refl refl q.1)
           at (Stopped Memory) q = tt

@@ -58,7 +58,7 @@ pub use Rattle.wi_lookup_functions.specs.declared.rule.Rule.{Rule}
 pub use Rattle.wi_lookup_functions.specs.declared.rule.Rule.TheVariants.{FirstEqual, LastAtLeast, LastAtMost}
 pub use Rattle.wi_lookup_functions.specs.declared.search.Search.{Search}
 pub use Rattle.wi_standard_functions.proofs.Criteria.{meets_is}
-pub use Rattle.wi_standard_functions.specs.Arguments.{Argument, Region, region_at, region_of, region_or, region_referred, value_at, value_or}
+pub use Rattle.wi_standard_functions.specs.Arguments.{Argument, Region, region_at, region_of, region_referred, value_at, value_or}
 pub use Rattle.wi_standard_functions.specs.Arithmetic.{addition, fitting, multiplication, whole_value}
 pub use Rattle.wi_standard_functions.specs.Comparison.{rank, value_order}
 pub use Rattle.wi_standard_functions.specs.Convert.{one_number, to_logical, to_number, to_whole, zero_number}
@@ -66,10 +66,10 @@ pub use Rattle.wi_standard_functions.specs.Criterion.{constant_of, meets_criteri
 pub use Rattle.wi_standard_functions.specs.FirstError.{no_error}
 pub use Rattle.wi_standard_functions.specs.Information.{count_if_value, is_empty_value}
 pub use Rattle.wi_standard_functions.specs.Inner.Criteria.{criterion_of, is_met_by}
-pub use Rattle.wi_standard_functions.specs.Inner.Named.{chosen_cells, h_lookup_value, index_along, index_by_both, nth_cell_along, sum_of_items, type_for, v_lookup_value, values_along, with_number}
+pub use Rattle.wi_standard_functions.specs.Inner.Named.{chosen_cells, h_lookup_value, index_along, index_by_both, nth_cell_along, region_or, sum_if_by, sum_of_items, type_for, v_lookup_value, values_along, with_number}
 pub use Rattle.wi_standard_functions.specs.Lookup.{cell_in, index_value, match_value, nth_cell, position_among}
 pub use Rattle.wi_standard_functions.specs.Matching.{can_be_found, is_match, last_position, match_position, same_kind, sought_for}
-pub use Rattle.wi_standard_functions.specs.Mathematical.{factor, of_one_size, product_at, products, same_size, sum_if_value, sum_product_value}
+pub use Rattle.wi_standard_functions.specs.Mathematical.{factor, of_one_size, product_at, products, same_size, sum_product_value}
 pub use Rattle.wi_standard_functions.specs.Sequence.{Item, from_cell, number_of_item, scalar}
 pub use Rattle.wi_standard_functions.specs.Steps.{and_then, map_until_error, ◌>>=◌}
 pub use Rattle.wi_value_functions.proofs.Counts.{cut_counted, cut_value}

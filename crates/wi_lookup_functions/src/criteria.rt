@@ -3,7 +3,8 @@
 ghost use Rattle.std.specs.Prelude.{◌≡◌, ◌∷◌, [], ℕ, IfOk, slice_get};
 ghost use Rattle.std.specs.Option.{option_copied};
 ghost use Rattle.wi_values.specs.declared.value.Value.{Value as Values};
-ghost use Rattle.wi_standard_functions.specs.Arguments.{region_or, value_at};
+ghost use Rattle.wi_standard_functions.specs.Arguments.{value_at};
+ghost use Rattle.wi_standard_functions.specs.Inner.Named.{region_or};
 ghost use Rattle.wi_arguments.specs.Arguments.{argument_in, arguments_in, region_in, IsMissing, IsReferred};
 ghost use Rattle.wi_lookup_functions.specs.Inner.Meeting.{criterion_held};
 ghost use Rattle.wi_lookup_functions.specs.Inner.Giving.{criterion_argument, Agrees, IsCriterionOf};

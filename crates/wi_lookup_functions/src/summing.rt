@@ -3,7 +3,7 @@
 ghost use Rattle.std.specs.Prelude.{◌≡◌, true, None, Ok, IfOk, IfErr, if◌then◌else◌};
 ghost use Rattle.wi_standard_functions.specs.Arguments.{region_of};
 ghost use Rattle.wi_standard_functions.specs.Inner.Named.{sum_of_items};
-ghost use Rattle.wi_standard_functions.specs.Mathematical.{sum_if_value};
+ghost use Rattle.wi_standard_functions.specs.Inner.Named.{sum_if_by};
 ghost use Rattle.wi_value_functions.specs.NoValues.{IfMissing};
 ghost use Rattle.wi_arguments.specs.Arguments.{IsMissing, IsOfArguments};
 ghost use Rattle.wi_lookup_functions.specs.Inner.Meeting.{is_met};
@@ -30,7 +30,7 @@ pub(crate) fn sum_if_value<L: Lookup>(
     lookup: &L,
 ) -> Result<Value, Stop<Address>>
     ensures done { IfOk result
-        (IsOfArguments (L.known_cell lookup.now) sum_if_value arguments.now) }
+        (IsOfArguments (L.known_cell lookup.now) sum_if_by arguments.now) }
     ensures missing { IfErr result
         (λ s. IfMissing s (IsMissing (L.known_cell lookup.now) arguments.now)) }
 {
@@ -42,7 +42,7 @@ fn sum_if<L: Lookup>(
     arguments: &[Argument],
     lookup: &L,
 ) -> Result<Value, NoValue<Stop<Address>>>
-    ensures { Gives (L.known_cell lookup.now) sum_if_value arguments.now result }
+    ensures { Gives (L.known_cell lookup.now) sum_if_by arguments.now result }
 {
     let area = area_at(arguments, 0)?;
     let criterion = criterion_at(alloc, arguments, 1, lookup)?;

@@ -37,8 +37,5 @@ value_or default args i = option_map_or (λ (a : Argument). a.value) (slice_get 
 abbrev pub value_at : List Argument → ℕ → Value
 value_at args i = value_or Empty args i
 
-abbrev pub region_or : Result Region ErrorKind → List Argument → ℕ → Result Region ErrorKind
-region_or default args i = option_map_or region_referred (slice_get args i) default
-
 abbrev pub region_at : List Argument → ℕ → Result Region ErrorKind
-region_at args i = region_or (Err BadValue) args i
+region_at args i = option_map_or region_referred (slice_get args i) (Err BadValue)

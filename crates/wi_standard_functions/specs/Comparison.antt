@@ -27,7 +27,6 @@ rank (Text t) = 1
 rank (Logical b) = 2
 rank v = 0
 
--- values of different kinds stand in the order of the kinds
 abbrev pub value_order : Value → Value → Ordering
 value_order (Number x) (Number y) = cross_cmp x y
 value_order (Text s) (Text t) = slice_cmp nat_cmp s t

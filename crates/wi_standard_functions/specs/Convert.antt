@@ -34,11 +34,9 @@ to_number (v.Logical true) = Ok one_number
 to_number (v.Logical false) = Ok zero_number
 to_number (v.Fault e) = Err e
 
--- its number cut toward zero
 abbrev pub to_whole : value.Value → Result ℤ ErrorKind
 to_whole w = and_then (λ x. Ok (rounded Toward x).num) (to_number w)
 
--- any number but 0 is TRUE, and a text is no truth value
 abbrev pub to_logical : value.Value → Result Bool ErrorKind
 to_logical v.Empty = Ok false
 to_logical (v.Number x) = Ok (not (int_eq x.num (pos 0)))

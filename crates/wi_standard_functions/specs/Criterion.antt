@@ -16,11 +16,10 @@ is_unequal operand v = can_be_found v && not (is_match is_eq operand v)
 abbrev pub import_of : (text : Bytes) → (o : Option Value) × IsImported text o
 import_of text = the_import text
 
--- what it is imported as
 abbrev pub constant_of : Bytes → Value
 constant_of text = unwrap_or (import_of text).0 (Text text)
 
--- the operators and the relations that they stand for, longer ones first
+-- longer ones first
 abbrev pub operators : List (Bytes × (Value → Value → Bool))
 operators =
     (codes "<>", is_unequal) ∷ (codes "<=", is_match is_le) ∷ (codes ">=", is_match is_ge)

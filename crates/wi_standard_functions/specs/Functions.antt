@@ -13,7 +13,7 @@ use Rattle.wi_standard_functions.specs.Arguments.{Argument, value_at, value_or}
 use Rattle.wi_standard_functions.specs.Arithmetic.{addition, calculated, exponentiation, multiplication}
 use Rattle.wi_standard_functions.specs.Convert.{zero_number, one_number}
 use Rattle.wi_standard_functions.specs.Information.{count_if_value, counted, is_empty_value, is_error_value, is_logical_value, is_not_available, is_number_value, is_text_value, value_value}
-use Rattle.wi_standard_functions.specs.Logical.{if_error_value, if_na_value, if_value, joined, not_value}
+use Rattle.wi_standard_functions.specs.Logical.{if_value, joined, not_value, replaced_if}
 use Rattle.wi_standard_functions.specs.Lookup.{cell_in, choose_value, index_value, look_up_value, match_value}
 use Rattle.wi_standard_functions.specs.Mathematical.{abs_value, folded, mod_value, quotient_value, sign_value, sum_if_value, sum_product_value}
 use Rattle.wi_standard_functions.specs.Rounding.{int_value, round_value}
@@ -28,23 +28,24 @@ pub record Function : Type 0 where
 
 -- ---- rows of the table
 
-abbrev pub with_parameters : Bytes → ℕ → ℕ → (List Argument → Value) → Function
-with_parameters name least greatest value = record { name = name; takes = λ n. nat_le least n && nat_le n greatest; value = value }
+module _ (name : Bytes) where
+  abbrev pub with_parameters : ℕ → ℕ → (List Argument → Value) → Function
+  with_parameters least greatest value = record { name = name; takes = λ n. nat_le least n && nat_le n greatest; value = value }
 
-abbrev pub variadic : Bytes → ℕ → (List Argument → Value) → Function
-variadic name least value = record { name = name; takes = nat_le least; value = value }
+  abbrev pub variadic : ℕ → (List Argument → Value) → Function
+  variadic least value = record { name = name; takes = nat_le least; value = value }
 
-abbrev pub one : Bytes → (Value → Value) → Function
-one name f = with_parameters name 1 1 (λ args. f (value_at args 0))
+  abbrev pub one : (Value → Value) → Function
+  one f = with_parameters 1 1 (λ args. f (value_at args 0))
 
-abbrev pub two : Bytes → (Value → Value → Value) → Function
-two name f = with_parameters name 2 2 (λ args. f (value_at args 0) (value_at args 1))
+  abbrev pub two : (Value → Value → Value) → Function
+  two f = with_parameters 2 2 (λ args. f (value_at args 0) (value_at args 1))
 
-abbrev pub two_or : Bytes → Value → (Value → Value → Value) → Function
-two_or name default f = with_parameters name 1 2 (λ args. f (value_at args 0) (value_or default args 1))
+  abbrev pub two_or : Value → (Value → Value → Value) → Function
+  two_or default f = with_parameters 1 2 (λ args. f (value_at args 0) (value_or default args 1))
 
-abbrev pub test : Bytes → (Value → Bool) → Function
-test name holds = one name (λ v. Logical (holds v))
+  abbrev pub test : (Value → Bool) → Function
+  test holds = one (λ v. Logical (holds v))
 
 unfoldable pub functions : List Function
 functions =
@@ -61,8 +62,8 @@ functions =
     ∷ with_parameters (codes "FIND") 2 3 find_value
     ∷ with_parameters (codes "HLOOKUP") 3 4 (look_up_value (λ r. r.width) (λ r. r.height) (λ r column row. cell_in r row column))
     ∷ with_parameters (codes "IF") 1 3 if_value
-    ∷ two (codes "IFERROR") if_error_value
-    ∷ two (codes "IFNA") if_na_value
+    ∷ two (codes "IFERROR") (replaced_if is_error_value)
+    ∷ two (codes "IFNA") (replaced_if is_not_available)
     ∷ with_parameters (codes "INDEX") 2 3 index_value
     ∷ one (codes "INT") int_value
     ∷ test (codes "ISBLANK") is_empty_value

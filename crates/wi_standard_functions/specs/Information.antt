@@ -16,7 +16,6 @@ use Rattle.wi_standard_functions.specs.Steps.{◌>>=◌}
 
 -- ---- tests of a value; no error passes through
 
--- ISBLANK
 abbrev pub is_empty_value : Value → Bool
 is_empty_value Empty = true
 is_empty_value v = false
@@ -37,7 +36,6 @@ abbrev pub is_error_value : Value → Bool
 is_error_value (Fault e) = true
 is_error_value v = false
 
--- ISNA
 abbrev pub is_not_available : Value → Bool
 is_not_available (Fault NotAvailable) = true
 is_not_available v = false
@@ -48,7 +46,6 @@ is_not_available v = false
 abbrev pub counted : (Value → Bool) → List Argument → Value
 counted test args = whole_value (count_by (λ item. test (value_of_item item)) (sequence_of args))
 
--- COUNTIF: the cells that meet the criterion
 abbrev pub count_if_value : List Argument → Value
 count_if_value args = do
   r ← region_at args 0
@@ -59,7 +56,6 @@ abbrev pub number_in : (text : Bytes)
     → (o : Option numbers.Number) × ((x : numbers.Number) → SpellsNumber text x ↔ (o ≡ Some x))
 number_in text = the_number text
 
--- VALUE: of a Number itself, of a Text the number that it spells
 abbrev pub value_value : Value → Value
 value_value (Number x) = Number x
 value_value (Text t) = do x ← ok_or (number_in t).0 BadValue; Number x

@@ -1,5 +1,5 @@
 -- OpenFormula, "Lookup Functions".
-use Rattle.std.specs.Prelude.{ℕ, ℤ, pos, ◌+◌, ◌*◌, ◌-◌, ◌==◌, ◌||◌, true, nat_lt, int_lt, unsigned_abs, nat_le, length, List, map, slice_get, unwrap_or, None, Result, Ok, Err, ok_or, if◌then◌else◌}
+use Rattle.std.specs.Prelude.{ℕ, ℤ, pos, ◌+◌, ◌*◌, ◌-◌, ◌==◌, ◌||◌, true, nat_lt, int_lt, unsigned_abs, nat_le, length, List, map, slice_get, unwrap_or, Result, Ok, Err, ok_or, if◌then◌else◌}
 use Rattle.std.specs.List.{range_with_len}
 use Rattle.wi_fraction.specs.Number as numbers
 use Rattle.wi_values.specs.declared.value.ErrorKind.{ErrorKind}
@@ -12,14 +12,11 @@ use Rattle.wi_standard_functions.specs.Convert.{to_number, to_whole, to_logical,
 use Rattle.wi_standard_functions.specs.FirstError.{no_error}
 use Rattle.wi_standard_functions.specs.Matching.{match_position, sought_for}
 use Rattle.wi_standard_functions.specs.Steps.{◌>>=◌}
+use Rattle.wi_standard_functions.specs.Text.{at_least}
 
--- the k-th after the first
-abbrev pub chosen : ℤ → List Argument → Result Argument ErrorKind
-chosen k args = ok_or (if int_lt k (pos 1) then None else slice_get args (unsigned_abs k)) BadValue
-
--- only the error of the argument that is chosen counts
+-- the k-th after the first; only the error of that one counts
 abbrev pub choose_value : List Argument → Value
-choose_value args = do k ← to_whole (value_at args 0); a ← chosen k args; a.value
+choose_value args = do k ← to_whole (value_at args 0); i ← at_least 1 k; value_or (Fault BadValue) args i
 
 -- ---- positions in a region
 

@@ -24,7 +24,6 @@ abbrev pub sought_for : Value → Value
 sought_for Empty = Number zero_number
 sought_for v = v
 
--- of the one sought's kind, and in such an order to it
 abbrev pub is_match : (Ordering → Bool) → Value → Value → Bool
 is_match test sought v = same_kind v sought && test (value_order v sought)
 

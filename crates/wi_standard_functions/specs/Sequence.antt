@@ -1,6 +1,6 @@
 -- Sequences of items, as OpenFormula's NumberSequence and LogicalSequence, and what counts of them by this project's
 -- rules.
-use Rattle.std.specs.Prelude.{Bool, List, [], ◌∷◌, map, flat_map, Option, Some, None, option_to_list, Result, Ok, Err}
+use Rattle.std.specs.Prelude.{Bool, List, [], ◌∷◌, map, flat_map, fold, Option, Some, None, option_to_list, Result, Ok, Err}
 use Rattle.std.specs.Option.{option_map_or}
 use Rattle.wi_fraction.specs.Number as numbers
 use Rattle.wi_values.specs.declared.value.ErrorKind.{ErrorKind}
@@ -9,7 +9,7 @@ use Rattle.wi_values.specs.declared.value.Value.TheVariants.{Empty, Number, Text
 use Rattle.wi_standard_functions.specs.Arguments.{Argument, Region}
 use Rattle.wi_standard_functions.specs.Arithmetic.{Operation}
 use Rattle.wi_standard_functions.specs.Convert.{to_number, to_logical}
-use Rattle.wi_standard_functions.specs.Steps.{and_then, map_until_error, fold_until_error}
+use Rattle.wi_standard_functions.specs.Steps.{and_then, map_until_error}
 
 -- the value of a cell of a reference, or another
 pub data Item : Type 0 where
@@ -48,4 +48,5 @@ all_that_count counts items = and_then (λ found. Ok (flat_map option_to_list fo
 -- the first error met, also of a step, is the result
 abbrev pub number_fold : Operation → numbers.Number → List Item → Result numbers.Number ErrorKind
 number_fold calculate start items =
-    fold_until_error (λ x item. and_then (λ found. option_map_or (calculate x) found (Ok x)) (number_of_item item)) start items
+    fold (λ before item. and_then (λ x. and_then (λ found. option_map_or (calculate x) found (Ok x)) (number_of_item item)) before)
+    (Ok start) items

@@ -1,5 +1,5 @@
 -- The steps of a function, from the left: the first error met is its result.
-use Rattle.std.specs.Prelude.{List, [], ◌∷◌, fold, Result, Ok, Err}
+use Rattle.std.specs.Prelude.{List, [], ◌∷◌, Result, Ok, Err}
 use Rattle.wi_values.specs.declared.value.ErrorKind.{ErrorKind}
 use Rattle.wi_values.specs.declared.value.Value.{Value}
 use Rattle.wi_values.specs.declared.value.Value.TheVariants.{Fault}
@@ -13,9 +13,6 @@ Err e >>= f = Fault e
 abbrev pub and_then : {A B : Type 0} → (A → Result B ErrorKind) → Result A ErrorKind → Result B ErrorKind
 and_then f (Ok x) = f x
 and_then f (Err e) = Err e
-
-abbrev pub fold_until_error : {A X : Type 0} → (A → X → Result A ErrorKind) → A → List X → Result A ErrorKind
-fold_until_error step start xs = fold (λ before x. and_then (λ a. step a x) before) (Ok start) xs
 
 abbrev pub map_until_error : {X Y : Type 0} → (X → Result Y ErrorKind) → List X → Result (List Y) ErrorKind
 map_until_error f [] = Ok []

@@ -1,5 +1,5 @@
 -- OpenFormula, "Text Functions". Characters are Unicode scalar values.
-use Rattle.std.specs.Prelude.{ℕ, ℤ, pos, ◌+◌, ◌-◌, nat_eq, nat_le, int_lt, unsigned_abs, List, take, drop, length, map, find, chars, bytes_eq, encode_utf8_all, Option, None, option_map, Result, Ok, Err, ok_or, if◌then◌else◌}
+use Rattle.std.specs.Prelude.{ℕ, ℤ, pos, ◌+◌, ◌-◌, nat_eq, int_lt, unsigned_abs, List, take, drop, length, map, find, chars, bytes_eq, encode_utf8_all, Option, Result, Ok, Err, ok_or, if◌then◌else◌}
 use Rattle.std.specs.List.{concat, repeat, starts_with, range_with_len}
 use Rattle.wi_values.specs.declared.value.ErrorKind.{ErrorKind}
 use Rattle.wi_values.specs.declared.value.ErrorKind.TheVariants.{BadValue}
@@ -41,14 +41,9 @@ concatenate_value args = do ts ← map_until_error to_text (map (λ (a : Argumen
 abbrev pub exact_value : Value → Value → Value
 exact_value t u = do s ← to_text t; r ← to_text u; Logical (bytes_eq s r)
 
--- the first position, from 0, where the characters stand in others
-abbrev pub first_position : List ℕ → List ℕ → Option ℕ
-first_position sought cs = find (λ i. starts_with nat_eq (drop i cs) sought) (range_with_len 0 (length cs + 1))
-
--- the first position, from 0, where the characters stand in others, at this one or behind it; none where this one is
--- beyond the place behind the last
-abbrev pub position_from : ℕ → List ℕ → List ℕ → Option ℕ
-position_from from sought cs = if nat_le from (length cs) then option_map (λ i. from + i) (first_position sought (drop from cs)) else None
+-- the first position, from 0, at this one or behind it, where the characters stand in others
+abbrev pub first_from : ℕ → List ℕ → List ℕ → Option ℕ
+first_from from sought cs = find (λ i. starts_with nat_eq (drop i cs) sought) (range_with_len from (length cs + 1 - from))
 
 -- the third, 1 by default, counts from 1
 abbrev pub find_value : List Argument → Value
@@ -57,7 +52,7 @@ find_value args = do
   s ← to_text (value_at args 1)
   k ← to_whole (value_or (Number one_number) args 2)
   from ← at_least 1 k
-  i ← ok_or (position_from (from - 1) (chars sought) (chars s)) BadValue
+  i ← ok_or (first_from (from - 1) (chars sought) (chars s)) BadValue
   whole_value (i + 1)
 
 abbrev pub rept_value : Value → Value → Value

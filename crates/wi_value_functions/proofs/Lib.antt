@@ -9,6 +9,7 @@ mod Finding
 pub mod Searching
 pub mod Names
 pub mod Given
+mod RowValues
 pub mod ValuesAlone
 pub mod Comparing
 pub mod Words

@@ -43,17 +43,17 @@ pub use Rattle.wi_standard_functions.specs.Arithmetic.{fitting, limited_text, wh
 pub use Rattle.wi_standard_functions.specs.Convert.{to_text, to_whole}
 unfoldable pub use Rattle.wi_standard_functions.specs.Functions.{call_value, functions}
 pub use Rattle.wi_standard_functions.specs.Information.{value_value}
-pub use Rattle.wi_standard_functions.specs.Inner.Named.{concatenated, find_of, mid_of, of_one, of_three_or, of_two_or, one_value, power_value, zero_value}
+pub use Rattle.wi_standard_functions.specs.Inner.Named.{concatenated, find_of, first_position, mid_of, of_one, of_three_or, of_two, of_two_or, one_value, power_value, zero_value}
 pub use Rattle.wi_standard_functions.specs.Logical.{not_value}
 pub use Rattle.wi_standard_functions.specs.Mathematical.{abs_value, mod_value, quotient_value, sign_value}
 pub use Rattle.wi_standard_functions.specs.Rounding.{int_value, round_value}
 pub use Rattle.wi_standard_functions.specs.Steps.{and_then, map_until_error, ◌>>=◌}
-pub use Rattle.wi_standard_functions.specs.Text.{at_least, exact_value, first_position, left_value, len_value, of_chars, rept_value, right_value}
+pub use Rattle.wi_standard_functions.specs.Text.{at_least, exact_value, left_value, len_value, of_chars, rept_value, right_value}
 pub use Rattle.wi_value_functions.specs.Applied.{applied_to_arguments, applied_to_values, arguments_of, passes}
 pub use Rattle.wi_value_functions.specs.NoValues.{Gives}
 pub use Rattle.wi_value_functions.specs.Inner.Counts.{IsCut, counted}
 pub use Rattle.wi_value_functions.specs.Inner.Gives.{Agrees, EndsWith}
-pub use Rattle.wi_value_functions.specs.Inner.Rows.{function_of, is_not_above, takes_between}
+pub use Rattle.wi_value_functions.specs.Inner.Rows.{function_of, given, is_not_above, takes_between}
 unfoldable pub use Rattle.wi_value_functions.specs.Inner.Rows.{function_named}
 pub use Rattle.wi_value_functions.specs.declared.no_value.NoValue.{NoValue}
 pub use Rattle.wi_value_functions.specs.declared.no_value.NoValue.TheVariants.{Error, Stopped}

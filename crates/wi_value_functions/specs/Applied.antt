@@ -2,11 +2,11 @@
 use Rattle.std.specs.Prelude.{Bool, List, map, None}
 use Rattle.wi_values.specs.declared.value.Value.{Value as AnyValue}
 use Rattle.wi_standard_functions.specs.Arguments.{Argument}
-use Rattle.wi_standard_functions.specs.Inner.Named.{and_value, count_a_value, count_value, concatenated, false_value, find_of, h_lookup_value, is_no_text, is_other_error, max_value, mid_of, min_value, na_value, of_none, of_one, of_test, of_three, of_three_or, of_two, of_two_or, of_values, one_value, or_value, power_value, product_value, sum_value, true_value, v_lookup_value, zero_value}
+use Rattle.wi_standard_functions.specs.Inner.Named.{and_value, choose_of, count_a_value, count_value, concatenated, false_value, find_of, h_lookup_value, if_error_value, if_na_value, is_no_text, is_other_error, max_value, mid_of, min_value, na_value, of_none, of_one, of_test, of_three, of_three_or, of_two, of_two_or, of_values, one_value, or_value, power_value, product_value, sum_if_by, sum_value, true_value, v_lookup_value, zero_value}
 use Rattle.wi_standard_functions.specs.Information.{count_if_value, is_empty_value, is_number_value, is_text_value, is_logical_value, is_error_value, is_not_available, value_value}
-use Rattle.wi_standard_functions.specs.Logical.{not_value, if_value, if_error_value, if_na_value}
-use Rattle.wi_standard_functions.specs.Lookup.{choose_value, index_value, match_value}
-use Rattle.wi_standard_functions.specs.Mathematical.{abs_value, sign_value, quotient_value, mod_value, sum_if_value, sum_product_value}
+use Rattle.wi_standard_functions.specs.Logical.{not_value, if_value}
+use Rattle.wi_standard_functions.specs.Lookup.{index_value, match_value}
+use Rattle.wi_standard_functions.specs.Mathematical.{abs_value, sign_value, quotient_value, mod_value, sum_product_value}
 use Rattle.wi_standard_functions.specs.Rounding.{int_value, round_value}
 use Rattle.wi_standard_functions.specs.Statistical.{average_value}
 use Rattle.wi_standard_functions.specs.Text.{len_value, left_value, right_value, exact_value, rept_value}
@@ -38,7 +38,7 @@ abbrev pub applied_to_arguments : Function → List Argument → AnyValue
 applied_to_arguments (Lazy If) args = if_value args
 applied_to_arguments (Lazy IfError) args = of_two if_error_value args
 applied_to_arguments (Lazy IfNa) args = of_two if_na_value args
-applied_to_arguments (Lazy Choose) args = choose_value args
+applied_to_arguments (Lazy Choose) args = choose_of args
 applied_to_arguments (Values Abs) args = of_one abs_value args
 applied_to_arguments (Values False) args = of_none false_value args
 applied_to_arguments (Values Int) args = of_one int_value args
@@ -73,7 +73,7 @@ applied_to_arguments (References (Fold Min)) args = min_value args
 applied_to_arguments (References (Fold Or)) args = or_value args
 applied_to_arguments (References (Fold Product)) args = product_value args
 applied_to_arguments (References (Fold Sum)) args = sum_value args
-applied_to_arguments (References (Lookup SumIf)) args = sum_if_value args
+applied_to_arguments (References (Lookup SumIf)) args = sum_if_by args
 applied_to_arguments (References (Lookup SumProduct)) args = sum_product_value args
 applied_to_arguments (References (Lookup VLookup)) args = v_lookup_value args
 

@@ -1,6 +1,6 @@
 -- Parts of the definitions by names of their own.
-use Rattle.std.specs.Prelude.{ℕ, ℤ, pos, ◌+◌, ◌-◌, Bool, true, false, not, ◌&&◌, ◌||◌, ◌==◌, Result, Ok, Err, List, [], ◌∷◌, map, filter, zip, take, drop, chars, Option, option_map, ok_or, if◌then◌else◌}
-use Rattle.std.specs.List.{concat, list_all, list_any}
+use Rattle.std.specs.Prelude.{ℕ, ℤ, pos, ◌+◌, ◌-◌, nat_eq, nat_le, int_lt, unsigned_abs, Bool, true, false, not, ◌&&◌, ◌||◌, ◌==◌, Result, Ok, Err, List, [], ◌∷◌, length, map, filter, find, fold, zip, take, drop, slice_get, chars, Option, None, option_map, ok_or, if◌then◌else◌}
+use Rattle.std.specs.List.{concat, list_all, list_any, range_with_len, starts_with}
 use Rattle.std.specs.Option.{option_map_or}
 use Rattle.std.specs.Ordering.{is_lt, is_gt}
 use Rattle.wi_fraction.specs.Number as numbers
@@ -10,18 +10,18 @@ use Rattle.wi_values.specs.declared.value.ErrorKind.{ErrorKind}
 use Rattle.wi_values.specs.declared.value.ErrorKind.TheVariants.{BadValue, NotAvailable}
 use Rattle.wi_values.specs.declared.value.Value.{Value}
 use Rattle.wi_values.specs.declared.value.Value.TheVariants.{Number, Logical, Fault}
-use Rattle.wi_standard_functions.specs.Arguments.{Argument, Region, region_at, region_of, value_at, value_or}
+use Rattle.wi_standard_functions.specs.Arguments.{Argument, Region, region_at, region_of, region_referred, value_at, value_or}
 use Rattle.wi_standard_functions.specs.Arithmetic.{Operation, addition, calculated, exponentiation, limited_text, multiplication, whole_value}
 use Rattle.wi_standard_functions.specs.Convert.{zero_number, one_number, to_text, to_whole}
 use Rattle.wi_standard_functions.specs.Criterion.{meets_criterion}
 use Rattle.wi_standard_functions.specs.Information.{counted, is_empty_value, is_error_value, is_not_available, is_number_value, is_text_value}
-use Rattle.wi_standard_functions.specs.Logical.{joined}
+use Rattle.wi_standard_functions.specs.FirstError.{no_error}
 use Rattle.wi_standard_functions.specs.Statistical.{extreme_value}
 use Rattle.wi_standard_functions.specs.Lookup.{cell_in, look_up_value, nth_cell}
 use Rattle.wi_standard_functions.specs.Mathematical.{folded, same_size}
-use Rattle.wi_standard_functions.specs.Sequence.{Item, all_that_count, from_cell, number_fold, number_of_item, scalar}
-use Rattle.wi_standard_functions.specs.Steps.{◌>>=◌, map_until_error}
-use Rattle.wi_standard_functions.specs.Text.{at_least, of_chars, position_from}
+use Rattle.wi_standard_functions.specs.Sequence.{Item, all_that_count, from_cell, logical_of_item, number_fold, number_of_item, scalar, sequence_of}
+use Rattle.wi_standard_functions.specs.Steps.{◌>>=◌, and_then, map_until_error}
+use Rattle.wi_standard_functions.specs.Text.{at_least, of_chars}
 
 abbrev pub of_none : Value → List Argument → Value
 of_none v args = v
@@ -53,6 +53,9 @@ is_other_error v = is_error_value v && not (is_not_available v)
 
 -- ---- what sequences, sums and look-ups are made of
 
+abbrev pub fold_until_error : {A X : Type 0} → (A → X → Result A ErrorKind) → A → List X → Result A ErrorKind
+fold_until_error step start xs = fold (λ before x. and_then (λ a. step a x) before) (Ok start) xs
+
 -- the cells of a reference, or another argument by itself
 abbrev pub items_of_one : Value → Option Region → List Item
 items_of_one v region = option_map_or (λ (r : Region). map from_cell r.values) region (scalar v ∷ [])
@@ -67,12 +70,32 @@ with_number calculate x found = option_map_or (calculate x) found (Ok x)
 abbrev pub sum_of_items : List Item → Result numbers.Number ErrorKind
 sum_of_items items = number_fold addition zero_number items
 
+abbrev pub region_or : Result Region ErrorKind → List Argument → ℕ → Result Region ErrorKind
+region_or default args i = option_map_or region_referred (slice_get args i) default
+
 -- the second's cells where the first's meet the criterion
 abbrev pub chosen_cells : Value → Region → Region → Result (List Item) ErrorKind
 chosen_cells criterion r s =
     if same_size r s
     then Ok (map (λ p. from_cell p.1) (filter (λ p. meets_criterion criterion p.0) (zip r.values s.values)))
     else Err BadValue
+
+-- SUMIF
+abbrev pub sum_if_by : List Argument → Value
+sum_if_by args = do
+  r ← region_at args 0
+  criterion ← no_error (value_at args 1)
+  s ← region_or (Ok r) args 2
+  cells ← chosen_cells criterion r s
+  x ← number_fold addition zero_number cells
+  Number x
+
+-- CHOOSE: the k-th after the first
+abbrev pub chosen : ℤ → List Argument → Result Argument ErrorKind
+chosen k args = ok_or (if int_lt k (pos 1) then None else slice_get args (unsigned_abs k)) BadValue
+
+abbrev pub choose_of : List Argument → Value
+choose_of args = do k ← to_whole (value_at args 0); a ← chosen k args; a.value
 
 -- the k-th cell of a region that is one column or one row
 abbrev pub nth_cell_along : Region → ℤ → Value
@@ -108,6 +131,15 @@ mid_of t start count = do
 
 abbrev pub concatenated : List Value → Value
 concatenated vs = do ts ← map_until_error to_text vs; limited_text (concat ts)
+
+-- the first position, from 0, where the characters stand in others
+abbrev pub first_position : List ℕ → List ℕ → Option ℕ
+first_position sought cs = find (λ i. starts_with nat_eq (drop i cs) sought) (range_with_len 0 (length cs + 1))
+
+-- the first position, from 0, where the characters stand in others, at this one or behind it; none where this one is
+-- beyond the place behind the last
+abbrev pub position_from : ℕ → List ℕ → List ℕ → Option ℕ
+position_from from sought cs = if nat_le from (length cs) then option_map (λ i. from + i) (first_position sought (drop from cs)) else None
 
 -- `start` counts from 1
 abbrev pub find_of : Value → Value → Value → Value
@@ -159,11 +191,24 @@ of_values f args = f (map (λ (a : Argument). a.value) args)
 abbrev pub of_test : (Value → Bool) → List Argument → Value
 of_test test args = Logical (test (value_at args 0))
 
+abbrev pub if_error_value : Value → Value → Value
+if_error_value (Fault e) w = w
+if_error_value v w = v
+
+abbrev pub if_na_value : Value → Value → Value
+if_na_value (Fault NotAvailable) w = w
+if_na_value v w = v
+
+-- of none there is no result
+abbrev pub tested : (List Bool → Bool) → List Bool → Value
+tested test [] = Fault BadValue
+tested test (b ∷ bs) = Logical (test (b ∷ bs))
+
 abbrev pub and_value : List Argument → Value
-and_value = joined (list_all (λ b. b))
+and_value args = do bs ← all_that_count logical_of_item (sequence_of args); tested (list_all (λ b. b)) bs
 
 abbrev pub or_value : List Argument → Value
-or_value = joined (list_any (λ b. b))
+or_value args = do bs ← all_that_count logical_of_item (sequence_of args); tested (list_any (λ b. b)) bs
 
 abbrev pub min_value : List Argument → Value
 min_value = extreme_value is_lt

@@ -1,8 +1,8 @@
 //! EXACT and FIND (OpenFormula, "Text Functions").
 
 ghost use Rattle.std.specs.Prelude.{◌≡◌, ◌≤◌, IfOk, IfSome, length, chars};
-ghost use Rattle.wi_standard_functions.specs.Text.{exact_value, first_position, position_from};
-ghost use Rattle.wi_standard_functions.specs.Inner.Named.{find_of};
+ghost use Rattle.wi_standard_functions.specs.Text.{exact_value};
+ghost use Rattle.wi_standard_functions.specs.Inner.Named.{find_of, first_position, position_from};
 ghost use Rattle.wi_value_functions.specs.NoValues.{Gives};
 
 use crate::count::whole_value;
