@@ -1,5 +1,6 @@
 pub mod Tests
 pub mod Layers
+mod Precedents
 pub mod Walks
 pub mod Ends
 pub mod Graphs

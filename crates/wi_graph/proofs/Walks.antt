@@ -1,5 +1,7 @@
 -- Walks between formulas: one that is as long as there are formulas has no end.
 use Rattle.wi_graph.proofs.Words.{◌≡◌, ◌==◌, ℕ, zero, suc, ◌+◌, ◌<◌, ◌≤◌, Bool, true, false, ◌&&◌, ◌||◌, ◌↔◌, cond, List, [], ◌∷◌, filter, map, get_or, Option, Some, None, length, refl, ap, sym, ◌∙◌, arith, inl, inr, ◌⊎◌, eq-eqb, and_parts, and_from, or_cases, or_left, or_right, eqb-true, nil_from_length, Any-from_list_any, list_any_at, list_any-append, AllPass-from_list_all, list_all-from_AllPass, list_any, list_all, one_truth, Content, Constant, Formula, Sheet, content_of, has_formula, cells_with_formula, content_reads, sublists, circular, Walks, has_walk}
+use Rattle.wi_graph.specs.Precedents.{formula_reads}
+use Rattle.wi_graph.proofs.Precedents.{reads_as_leaves}
 use Rattle.wi_graph.proofs.Layers.{is_one_of, layer, layer_zero, in_layer, has_walk_more, walker_has_formula}
 
 pub same_cell : (a k : ℕ) → (k == a) ≡ true → k ≡ a
@@ -145,6 +147,9 @@ filter_passes p q (x ∷ xs) h = any_sublist p x xs ∙ by (q x) h (filter_passe
 abbrev all_read : Sheet → List ℕ → Bool
 all_read s cs = list_all (λ d. list_any (content_reads (content_of s d)) cs) cs
 
+all_cells_read : (s : Sheet) (cs : List ℕ) → list_all (λ d. list_any (formula_reads (content_of s d)) cs) cs ≡ all_read s cs
+all_cells_read s cs = λ i. list_all (λ d. list_any (λ a. reads_as_leaves (content_of s d) a i) cs) cs
+
 reads_one : (s : Sheet) (cs : List ℕ) → all_read s cs ≡ true → (c : ℕ) → is_one_of cs c ≡ true → (d : ℕ) × (content_reads (content_of s c) d ≡ true) × (is_one_of cs d ≡ true)
 reads_one s cs all c m =
     let i = Any-from_list_any (λ x. x == c) cs m in
@@ -171,7 +176,8 @@ layer_read s =
 pub circular_walks : (s : Sheet) (c : ℕ) → circular s c ≡ true → (n : ℕ) → has_walk n s c ≡ true
 unfolding circular
 circular_walks s c h n =
-    let f = Any-from_list_any (λ cs. is_one_of cs c && all_read s cs) (sublists (cells_with_formula s)) h in
+    let whole : list_any (λ cs. is_one_of cs c && all_read s cs) (sublists (cells_with_formula s)) ≡ true = (λ i. list_any (λ cs. is_one_of cs c && sym (all_cells_read s cs) i) (sublists (cells_with_formula s))) ∙ h in
+    let f = Any-from_list_any (λ cs. is_one_of cs c && all_read s cs) (sublists (cells_with_formula s)) whole in
     let x = and_parts (is_one_of f.1 c) (all_read s f.1) f.4 in
     all_walk s f.1 x.1 n c x.0
 
@@ -179,7 +185,8 @@ long_walk : (s : Sheet) (c : ℕ) → has_walk (length (cells_with_formula s)) s
 unfolding circular
 long_walk s c h =
     let n = length (cells_with_formula s) in
-    filter_passes (λ cs. is_one_of cs c && all_read s cs) (has_walk n s) (cells_with_formula s) (and_from _ _ (in_layer n s c ∙ h) (layer_read s))
+    (λ i. list_any (λ cs. is_one_of cs c && all_cells_read s cs i) (sublists (cells_with_formula s)))
+    ∙ filter_passes (λ cs. is_one_of cs c && all_read s cs) (has_walk n s) (cells_with_formula s) (and_from _ _ (in_layer n s c ∙ h) (layer_read s))
 
 -- a cell is circular exactly where as many steps lead from it as there are formulas
 pub circular_is : (s : Sheet) (c : ℕ) → circular s c ≡ has_walk (length (cells_with_formula s)) s c

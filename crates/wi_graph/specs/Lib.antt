@@ -1,3 +1,4 @@
+pub mod Precedents
 pub mod Circular
 pub mod Reach
 pub mod Watched
