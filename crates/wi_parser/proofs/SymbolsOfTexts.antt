@@ -1,5 +1,5 @@
 -- The symbols of a text are those of its tokens.
-use Rattle.wi_parser.proofs.Words.{◌≡◌, ◌↔◌, ℕ, suc, ◌+◌, ◌<◌, ◌≤◌, Bool, true, false, cond, List, [], ◌∷◌, ◌++◌, length, take, drop, Option, Some, None, refl, sym, ap, ap₂, ◌∙◌, subst, arith, length-append, length-take-le, take-append-drop, take-append_seam, Kind, is_blank, blanks_len, IsToken, IsLongest, NoToken, after_blanks, token_at, tokens_from, tokens_ahead, tokens, tokens_are, token_shortens, found_ahead, token_no_blank, no_blanks, run_stops, token_some, token_sound, token_complete, none_begins, none_found, by_length, symbol_of, symbols_of, Symbol, NoneLonger, NoneBegins, AreSymbols, at_the_end, white_space, a_token, no_token}
+use Rattle.wi_parser.proofs.Words.{◌≡◌, ◌↔◌, ℕ, suc, ◌+◌, ◌<◌, ◌≤◌, Bool, true, false, cond, List, [], ◌∷◌, ◌++◌, length, take, drop, Option, Some, None, refl, sym, ap, ap₂, ◌∙◌, subst, arith, length-append, length-take-le, take-append-drop, take-append_seam, Kind, is_blank, blanks_len, IsToken, IsLongest, NoToken, after_blanks, token_at, tokens_from, tokens_ahead, tokens, tokens_are, token_shortens, found_ahead, token_no_blank, no_blanks, run_stops, token_some, token_sound, token_complete, none_begins, none_found, by_length, symbol_of, symbols_of, Symbol, NoneLonger, AreSymbols, at_the_end, white_space, a_token, no_token, Means, ◌≢◌}
 use Rattle.wi_parser.proofs.Meanings.{token_means, means_token}
 
 -- ---- the token at the front
@@ -21,6 +21,10 @@ longest k token rest t h =
       token = subst (IsToken k) (front_taken token rest bytes refl) t;
       longest = λ j m within is. let shorter = h (take m bytes) (drop m bytes) (symbol_of j (take m bytes)) (token_means j (take m bytes) is) (take-append-drop m bytes) in omega (arith, shorter, length-take-le m bytes within);
     }
+
+-- no token begins the bytes
+abbrev NoneBegins : List ℕ → Type 0
+NoneBegins bytes = (token rest : List ℕ) (s : Symbol) → Means token s → token ++ rest ≢ bytes
 
 none_begin : (bytes : List ℕ) → NoToken bytes → NoneBegins bytes
 none_begin bytes h token rest s m e = let t = means_token token s m in h t.0 (length token) (subst (IsToken t.0) (front_taken token rest bytes e) t.1)

@@ -86,7 +86,7 @@ pub use Rattle.wi_parser.specs.Contents.{HasSymbols, IsConstantText, IsContent, 
 pub use Rattle.wi_parser.specs.Grammar.{AreGrammatical, IsGrammatical, line_of, tree_line}
 pub use Rattle.wi_parser.specs.Inner.Answered.{HasFault, IsAnsweredAs, IsFirstFault, faults}
 pub use Rattle.wi_parser.specs.Inner.Deepest.{deepest, most_signs}
-pub use Rattle.wi_parser.specs.Inner.FormulaText.{IsFrontOf, after, after_equals, after_prefix, cell_symbol, corners_symbol, mark_symbol, number_symbol, rectangle_symbol, reference_symbol, symbol_of, symbols_by, symbols_of, symbols_with}
+pub use Rattle.wi_parser.specs.Inner.FormulaText.{IsFrontOf, after, after_equals, after_prefix, cell_symbol, corners_symbol, mark_symbol, name_symbol, number_symbol, rectangle_symbol, reference_symbol, symbol_of, symbols_by, symbols_of, symbols_with}
 unfoldable pub use Rattle.wi_parser.specs.Inner.FormulaText.{formula_symbols}
 pub use Rattle.wi_parser.specs.Inner.Lines.{Spells, SpellsAll, SpellsMore, a_call, a_cell, a_number, a_rectangle, a_text, another_parameter, in_parentheses, joined, last_parameter, loosest, no_parameter, one_input, parameters, tighter, two_inputs, with_percent, with_sign}
 pub use Rattle.wi_parser.specs.Inner.Moves.{all_references, column_moved, leaf_references, map_references, map_references_in, row_moved}
@@ -110,7 +110,7 @@ pub use Rattle.wi_parser.specs.Reads.{area_of, cell_area, inputs_of, leaf_inputs
 pub use Rattle.wi_parser.specs.Shift.{in_sheet, mapped_pairs, mapped_tree, mapped_trees, part, shifted, shifted_reference, within}
 pub use Rattle.wi_parser.specs.Spelling.{HasSpelling, IsSpelling, spelling, spelling_of_all, spelling_of_more}
 pub use Rattle.wi_parser.specs.Symbol.{Symbol, bad_token, close_parenthesis, corners, infix_mark, name, numeral, open_parenthesis, percent_mark, reference, separator, sign_mark, text_literal, what_if_name, written_as}
-pub use Rattle.wi_parser.specs.Symbols.{AreSymbols, Means, NoneBegins, NoneLonger, a_closing_parenthesis, a_name, a_percent_mark, a_reference, a_separator, a_token, an_opening_parenthesis, an_operator, an_outside_rectangle, an_outside_reference, an_unfit_number, at_the_end, name_symbol, no_token, reference_to, white_space}
+pub use Rattle.wi_parser.specs.Symbols.{AreSymbols, Means, NoneLonger, a_token, at_the_end, no_token, reference_to, white_space}
 pub use Rattle.wi_parser.specs.Tree.{Tree, Trees, binary, call, cell, more_trees, no_trees, number, parenthesized, percent, rectangle, signed, text, trees_of, what_if}
 pub use Rattle.wi_parser.specs.View.{all_of, layer_tree, pair_of, tree_of}
 pub use Rattle.wi_parser.specs.Writable.{IsFormulaTree, IsFunctionName, IsWritable}

@@ -10,6 +10,7 @@ pub mod Nests
 pub mod Outcome
 pub mod Parsed
 pub mod PrintedParts
+pub mod Puts
 pub mod Reader
 pub mod Reading
 pub mod Refusals

@@ -20,19 +20,13 @@ abbrev pub constant : Value → Option Content
 constant Empty = None
 constant v = Some (Constant v)
 
-abbrev pub without : Sheet → ℕ → Sheet
-without s c = filter (λ e. not (e.0 == c)) s
-
 abbrev pub with_content : Sheet → ℕ → Option Content → Sheet
-with_content s c None = without s c
+with_content s c None = filter (λ e. not (e.0 == c)) s
 with_content s c (Some x) = insert_entry nat_cmp s c x
-
-abbrev pub put : Sheet → ℕ → Value → Sheet
-put s c v = with_content s c (constant v)
 
 abbrev pub put_all : Sheet → List Replacement → Sheet
 put_all s [] = s
-put_all s (r ∷ rs) = put_all (put s r.at r.value) rs
+put_all s (r ∷ rs) = put_all (with_content s r.at (constant r.value)) rs
 
 abbrev pub has_formula : Option Content → Bool
 has_formula (Some (Formula t)) = true

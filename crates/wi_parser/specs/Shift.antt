@@ -21,54 +21,57 @@ part false size by k = within size (pos k +ℤ by)
 abbrev pub in_sheet : Reference → Bool
 in_sheet r = nat_lt r.at (rows * columns)
 
-abbrev pub shifted_reference : ℤ → ℤ → Reference → Option Reference
-shifted_reference down right r = do
-  row ← part r.row_is_absolute rows down (row_of r.at)
-  column ← part r.column_is_absolute columns right (column_of r.at)
-  Some (record r { at = place row column })
-
 -- ---- trees
 
-abbrev pub mapped_pairs : (Reference → Option Reference) → List (Reference × Reference) → Option (List (Reference × Reference))
-mapped_pairs f [] = Some []
-mapped_pairs f (q ∷ qs) = do
-  input ← f q.0
-  replacement ← f q.1
-  others ← mapped_pairs f qs
-  Some ((input, replacement) ∷ others)
+module _ (f : Reference → Option Reference) where
+  abbrev pub mapped_pairs : List (Reference × Reference) → Option (List (Reference × Reference))
+  mapped_pairs [] = Some []
+  mapped_pairs (q ∷ qs) = do
+    input ← f q.0
+    replacement ← f q.1
+    others ← mapped_pairs qs
+    Some ((input, replacement) ∷ others)
 
-abbrev mutual
-  -- the tree with what f has for each reference, if it has that for all
-  pub mapped_tree : (Reference → Option Reference) → Tree → Option Tree
-  mapped_tree f (cell r) = option_map cell (f r)
-  mapped_tree f (rectangle c) = do
-    one ← f c.one
-    other ← f c.other
-    Some (rectangle (record { one = one; other = other }))
-  mapped_tree f (parenthesized t) = option_map parenthesized (mapped_tree f t)
-  mapped_tree f (signed s t) = option_map (signed s) (mapped_tree f t)
-  mapped_tree f (percent t) = option_map percent (mapped_tree f t)
-  mapped_tree f (binary op t u) = do
-    left ← mapped_tree f t
-    right ← mapped_tree f u
-    Some (binary op left right)
-  mapped_tree f (what_if r pairs) = do
-    formula_cell ← f r
-    others ← mapped_pairs f pairs
-    Some (what_if formula_cell others)
-  mapped_tree f (call g ts) = option_map (call g) (mapped_trees f ts)
-  mapped_tree f t = Some t
+  abbrev mutual
+    -- the tree with what f has for each reference, if it has that for all
+    pub mapped_tree : Tree → Option Tree
+    mapped_tree (cell r) = option_map cell (f r)
+    mapped_tree (rectangle c) = do
+      one ← f c.one
+      other ← f c.other
+      Some (rectangle (record { one = one; other = other }))
+    mapped_tree (parenthesized t) = option_map parenthesized (mapped_tree t)
+    mapped_tree (signed s t) = option_map (signed s) (mapped_tree t)
+    mapped_tree (percent t) = option_map percent (mapped_tree t)
+    mapped_tree (binary op t u) = do
+      left ← mapped_tree t
+      right ← mapped_tree u
+      Some (binary op left right)
+    mapped_tree (what_if r pairs) = do
+      formula_cell ← f r
+      others ← mapped_pairs pairs
+      Some (what_if formula_cell others)
+    mapped_tree (call g ts) = option_map (call g) (mapped_trees ts)
+    mapped_tree t = Some t
 
-  pub mapped_trees : (Reference → Option Reference) → Trees → Option Trees
-  mapped_trees f no_trees = Some no_trees
-  mapped_trees f (more_trees t ts) = do
-    first ← mapped_tree f t
-    others ← mapped_trees f ts
-    Some (more_trees first others)
+    pub mapped_trees : Trees → Option Trees
+    mapped_trees no_trees = Some no_trees
+    mapped_trees (more_trees t ts) = do
+      first ← mapped_tree t
+      others ← mapped_trees ts
+      Some (more_trees first others)
 
--- down and to the right
-abbrev pub shifted : ℤ → ℤ → Tree → Option Tree
-shifted down right t = mapped_tree (shifted_reference down right) t
+-- ---- so far down and to the right
+
+module _ (down right : ℤ) where
+  abbrev pub shifted_reference : Reference → Option Reference
+  shifted_reference r = do
+    row ← part r.row_is_absolute rows down (row_of r.at)
+    column ← part r.column_is_absolute columns right (column_of r.at)
+    Some (record r { at = place row column })
+
+  abbrev pub shifted : Tree → Option Tree
+  shifted t = mapped_tree shifted_reference t
 
 -- ---- what the calls answer
 

@@ -7,7 +7,6 @@ use Rattle.wi_parser.specs.Grammar.{IsGrammatical}
 use Rattle.wi_parser.specs.Inner.Lines.{loosest, Spells}
 
 abbrev mutual
-  -- the only list that spells the tree
   pub spelling : Tree → List Symbol
   spelling (number x) = numeral x ∷ []
   spelling (text s) = text_literal s ∷ []

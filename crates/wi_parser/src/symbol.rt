@@ -2,8 +2,8 @@
 
 ghost use Rattle.std.specs.Prelude.{◌≡◌, IfOk};
 ghost use Rattle.wi_parser.specs.Inner.SymbolCode.{meant_by};
-ghost use Rattle.wi_parser.specs.Inner.FormulaText.{symbol_of, reference_symbol, rectangle_symbol, mark_symbol};
-ghost use Rattle.wi_parser.specs.Symbols.{name_symbol, reference_to};
+ghost use Rattle.wi_parser.specs.Inner.FormulaText.{symbol_of, name_symbol, reference_symbol, rectangle_symbol, mark_symbol};
+ghost use Rattle.wi_parser.specs.Symbols.{reference_to};
 ghost use Rattle.wi_lexer.specs.Token.{IsToken};
 ghost use Rattle.wi_lexer.specs.Reference.{IsReference};
 ghost use Rattle.wi_lexer.specs.Rectangle.{IsRectangle};

@@ -2,7 +2,7 @@
 use Rattle.wi_engine.proofs.Words.{◌≡◌, ◌==◌, ◌⊎◌, inl, inr, ◌||◌, ◌+◌, ◌-◌, ◌^◌, ◌<◌, ◌≤◌, ℕ, Bool, true, false, cond, suc, List, [], ◌∷◌, ◌++◌, map, take, drop, get_or, length, All, Contains, Option, Some, None, IfSome, is_some, Result, Ok, Err, IsErr, IfOk, is_ok, refl, ap, sym, ◌∙◌, subst, arith, append_assoc, cases_lt, map-append, list_any-append, or-false, or_cases, or_left, or_right, or_from, and_parts, true≢false, eq-eqb, AllocError, Value, Replacement, Tree, Sheet, content_of, put_all, has_formula, content_reads, Formula, constant, plain, put_formula, same_cell, is_one_of, Counts, one_more, cell_value, what_if_value, Case, case_of, reaching, same_case, Table, IsClosed, NeverFall, SpentOn, left, left_falls, one_less_left, spent_all, spent_none, spent_then, never_fall-same, never_fall-then, plus, wants, MemoState, IsMemoOf, MayBeRead, IsWithCell, found_value, found_what_ifs, Findings}
 use Rattle.wi_sheet.specs.Inner.Spending.{price}
 use Rattle.wi_sheet.proofs.CaseCosts.{spent_nothing, spent_price}
-use Rattle.wi_parser.specs.Sheet.{put}
+use Rattle.wi_parser.specs.Inner.Puts.{put}
 use Rattle.wi_sheet.proofs.Puts.{content_of-put}
 use Rattle.std.proofs.Math.Seq.{split_at, take-suc}
 use Rattle.wi_engine.specs.declared.plan.Planned.{Planned}

@@ -1,6 +1,6 @@
 -- The cells of a plan are demanded by the root, and may be read.
 use Rattle.wi_engine.proofs.Words.{◌≡◌, ◌==◌, inl, inr, ◌⊎◌, ◌||◌, ℕ, Bool, true, false, cond, List, [], ◌∷◌, ◌++◌, map, Option, Some, All, All-nil, All-cons, All-head, All-tail, refl, ap, sym, ◌∙◌, subst, append_assoc, list_any, or_parts, or_cases, true≢false, arith, nat_tests, Value, Replacement, Sheet, constant, content_of, put_all, has_formula, content_reads, Content, plain, put_formula, circular, reads_not_circular, reaches, reaches_read, reaching_below, content_below, is_one_of, Case, case_of, reaching, RestsOn, MemoState, IsMemoOf, MayBeRead, IsDemanded, content_reads_here}
-use Rattle.wi_parser.specs.Sheet.{put}
+use Rattle.wi_parser.specs.Inner.Puts.{put}
 use Rattle.wi_sheet.proofs.Puts.{overlaid, content_of-put, content_of-put_all}
 use Rattle.wi_engine.specs.declared.plan.Plan.{Plan}
 use Rattle.wi_engine.specs.declared.plan.Planned.{Planned}

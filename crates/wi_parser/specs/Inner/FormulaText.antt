@@ -1,5 +1,7 @@
 -- The symbols of a formula's text, as a reader finds them. Laws tie them to what texts mean.
 use Rattle.std.specs.Prelude.{◌≡◌, ℕ, List, [], ◌∷◌, ◌++◌, map, codes, ◌==◌, if◌then◌else◌, Option, Some, None, option_map, unwrap_or}
+use Rattle.std.specs.Char.{to_ascii_uppercase}
+use Rattle.std.specs.Str.{str_eq_ignore_ascii_case}
 use Rattle.wi_fraction.specs.Number.{Number as Numbers}
 use Rattle.wi_fraction.specs.Inner.Reading.{read_decimal}
 use Rattle.wi_lexer.specs.declared.token.Kind.{Kind}
@@ -16,8 +18,8 @@ use Rattle.wi_parser.specs.declared.expr.Operator.TheVariants as operator
 use Rattle.wi_parser.specs.declared.expr.Reference as references
 use Rattle.wi_parser.specs.declared.fault.ParseFault.TheVariants.{OutOfSheet, NumberRange, Syntax}
 use Rattle.wi_parser.specs.declared.front.Front.{Front}
-use Rattle.wi_parser.specs.Symbol.{Symbol, numeral, text_literal, reference, corners, open_parenthesis, close_parenthesis, separator, infix_mark, percent_mark, bad_token}
-use Rattle.wi_parser.specs.Symbols.{name_symbol, reference_to}
+use Rattle.wi_parser.specs.Symbol.{Symbol, numeral, text_literal, reference, corners, open_parenthesis, close_parenthesis, separator, infix_mark, percent_mark, bad_token, what_if_name, name}
+use Rattle.wi_parser.specs.Symbols.{reference_to}
 
 -- a number, if it fits
 abbrev pub number_symbol : Option Numbers → Symbol
@@ -60,6 +62,9 @@ mark_symbol Less = infix_mark operator.Less
 mark_symbol LessOrEqual = infix_mark operator.LessOrEqual
 mark_symbol Greater = infix_mark operator.Greater
 mark_symbol GreaterOrEqual = infix_mark operator.GreaterOrEqual
+
+abbrev pub name_symbol : List ℕ → Symbol
+name_symbol bs = if str_eq_ignore_ascii_case bs (codes "MULTIPLE.OPERATIONS") then what_if_name else name (map to_ascii_uppercase bs)
 
 -- what a token of this kind with these bytes means
 abbrev pub symbol_of : Kind → List ℕ → Symbol
