@@ -117,7 +117,8 @@ pub use Rattle.wi_sheet.proofs.SettledTables.{rests_more, settled_more, what_if_
 pub use Rattle.wi_sheet.proofs.SmallerWorlds.{content_below, reaching_below}
 pub use Rattle.wi_sheet.proofs.Steps.{put_not_circular, reads_not_circular, value_plain, value_step}
 pub use Rattle.wi_sheet.proofs.Wants.{asked_cell, asked_replacing, asked_what_if, is_in, rests_on_read, rests_on_what_if}
-pub use Rattle.wi_sheet.specs.CellValue.{cell_value, replacements, value_of, what_if_value}
+pub use Rattle.wi_sheet.specs.CellValue.{cell_value, value_of, what_if_value}
+pub use Rattle.wi_sheet.specs.Inner.Asked.{replacements}
 pub use Rattle.wi_sheet.specs.Demand.{Case, case_of, demand, formulas_read_here, of_formula, reaching, reads_here, same_case, wants, what_ifs_of, with_what_if}
 pub use Rattle.wi_sheet.specs.Inner.Rank.{reach_rank}
 pub use Rattle.wi_sheet.specs.Inner.ReadCells.{cells_after, is_after, occupied_within, rectangles_in}

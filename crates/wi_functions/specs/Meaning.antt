@@ -4,10 +4,10 @@ use Rattle.std.specs.Prelude.{◌==◌, ℕ, if◌then◌else◌, List, [], ◌�
 use Rattle.wi_values.specs.declared.value.Value.{Value}
 use Rattle.wi_values.specs.declared.value.Value.TheVariants.{Empty, Number, Text, Fault}
 use Rattle.wi_values.specs.declared.value.ErrorKind.TheVariants.{BadValue}
-use Rattle.wi_values.specs.Address.{Area}
+use Rattle.wi_values.specs.Address.{Area, rect_of}
 use Rattle.wi_parser.specs.declared.expr.Operator.TheVariants.{Divide}
 use Rattle.wi_parser.specs.Tree.{Tree, Trees, number, text, cell, rectangle, parenthesized, signed, percent, binary, what_if, call, no_trees, more_trees}
-use Rattle.wi_parser.specs.Reads.{area_of, cell_area}
+use Rattle.wi_parser.specs.Reads.{area_of}
 use Rattle.wi_standard_functions.specs.Arguments.{Argument, region_of}
 use Rattle.wi_standard_functions.specs.Functions.{call_value}
 use Rattle.wi_standard_functions.specs.Convert.{zero_number, hundred_number}
@@ -15,7 +15,7 @@ use Rattle.wi_functions.specs.Operators.{operate, with_sign}
 
 -- what a parameter refers to, also in parentheses
 abbrev pub referred : Tree → Option Area
-referred (cell r) = Some (cell_area r.at)
+referred (cell r) = Some (rect_of r.at r.at)
 referred (rectangle c) = Some (area_of c)
 referred (parenthesized t) = referred t
 referred t = None

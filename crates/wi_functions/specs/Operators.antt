@@ -14,18 +14,18 @@ use Rattle.wi_standard_functions.specs.Convert.{to_number, to_text}
 use Rattle.wi_standard_functions.specs.Steps.{◌>>=◌}
 
 abbrev pub operate : Operator → Value → Value → Value
-operate op.Add v w = calculated addition v w
-operate op.Subtract v w = calculated subtraction v w
-operate op.Multiply v w = calculated multiplication v w
-operate op.Divide v w = calculated division v w
-operate op.Power v w = calculated exponentiation v w
-operate op.Join v w = do s ← to_text v; t ← to_text w; limited_text (s ++ t)
-operate op.Equal v w = compared is_eq v w
-operate op.NotEqual v w = compared is_ne v w
-operate op.Less v w = compared is_lt v w
-operate op.LessOrEqual v w = compared is_le v w
-operate op.Greater v w = compared is_gt v w
-operate op.GreaterOrEqual v w = compared is_ge v w
+operate op.Add = calculated addition
+operate op.Subtract = calculated subtraction
+operate op.Multiply = calculated multiplication
+operate op.Divide = calculated division
+operate op.Power = calculated exponentiation
+operate op.Join = λ v w. (do s ← to_text v; t ← to_text w; limited_text (s ++ t))
+operate op.Equal = compared is_eq
+operate op.NotEqual = compared is_ne
+operate op.Less = compared is_lt
+operate op.LessOrEqual = compared is_le
+operate op.Greater = compared is_gt
+operate op.GreaterOrEqual = compared is_ge
 
 -- a plus changes nothing, not even a text
 abbrev pub with_sign : Sign → Value → Value

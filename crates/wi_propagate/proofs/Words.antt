@@ -87,12 +87,13 @@ pub use Rattle.wi_sheet.proofs.RestsUnder.{rests_stay}
 pub use Rattle.wi_sheet.proofs.SettledTables.{all_more, rests_more, what_if_more}
 pub use Rattle.wi_sheet.proofs.Steps.{put_circular_back, put_not_circular, reads_circular, shown_circular, shown_value, value_step}
 pub use Rattle.wi_sheet.proofs.TableEntries.{cells_open, entry_circular, entry_has, entry_shown, none_circular, table_closed, test_of_cells}
-pub use Rattle.wi_sheet.specs.CellValue.{cell_value, replacements}
+pub use Rattle.wi_sheet.specs.CellValue.{cell_value}
+pub use Rattle.wi_sheet.specs.Inner.Asked.{asks_circular, replacements}
 pub use Rattle.wi_sheet.specs.Demand.{Case, case_of, demanded, reaching, same_case, with_what_if}
 pub use Rattle.wi_sheet.specs.Inner.Spending.{HasCase, HasEntry, HasReplacing, IsClosed, SpentOn}
 pub use Rattle.wi_sheet.specs.Settled.{IsSettled, IsWhatIfSettled}
 pub use Rattle.wi_sheet.specs.Shown.{shown}
-pub use Rattle.wi_sheet.specs.TableEntry.{asks_circular, entry_demanded, table_entry}
+pub use Rattle.wi_sheet.specs.TableEntry.{entry_demanded, table_entry}
 pub use Rattle.wi_sheet.specs.Unmoved.{IsUnmoved}
 pub use Rattle.wi_store.specs.Store.{Applies, Stored, applied, change_without_empty, edited, without_empty}
 unfoldable pub use Rattle.wi_store.specs.Store.{accepted}

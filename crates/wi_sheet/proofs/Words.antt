@@ -46,7 +46,8 @@ unfoldable pub use Rattle.wi_graph.specs.Reach.{reaches}
 pub use Rattle.wi_parser.proofs.Rectangles.{one_cell, reads_within}
 pub use Rattle.wi_parser.specs.Leaves.{Leaf, all_leaves, cell_leaf, leaves, rectangle_leaf, what_if_leaf}
 pub use Rattle.wi_parser.specs.Reads.{area_of, cell_area, content_reads, leaf_reads, leaf_rectangles, reads, rectangles_of}
-pub use Rattle.wi_parser.specs.Sheet.{Sheet, cells_with_formula, constant, content_of, has_formula, put, put_all, with_content, without}
+pub use Rattle.wi_parser.specs.Sheet.{Sheet, cells_with_formula, constant, content_of, has_formula, put_all, with_content}
+pub use Rattle.wi_parser.specs.Inner.Puts.{put, without}
 pub use Rattle.wi_parser.specs.Tree.{Tree, Trees, binary, call, cell, more_trees, no_trees, number, parenthesized, percent, rectangle, signed, text, what_if}
 pub use Rattle.wi_parser.specs.View.{pair_of}
 pub use Rattle.wi_parser.specs.declared.content.Content.{Content}
@@ -55,7 +56,8 @@ pub use Rattle.wi_parser.specs.declared.expr.Operator.{Operator}
 pub use Rattle.wi_parser.specs.declared.expr.Operator.TheVariants.{Join}
 pub use Rattle.wi_parser.specs.declared.expr.Pair.{Pair}
 pub use Rattle.wi_parser.specs.declared.expr.Reference.{Reference}
-pub use Rattle.wi_sheet.specs.CellValue.{formula_in, replacements, value_of, what_if_in, what_if_value}
+pub use Rattle.wi_sheet.specs.Inner.Asked.{asks_circular, formula_in, replacements}
+pub use Rattle.wi_sheet.specs.CellValue.{value_of, what_if_in, what_if_value}
 unfoldable pub use Rattle.wi_sheet.specs.CellValue.{cell_value, value_within}
 pub use Rattle.wi_sheet.specs.Demand.{Case, case_of, demanded, different, formulas_read_here, leaf_reads_here, leaf_what_ifs, of_formula, precedent_cases, reaching, reads_here, same_case, wants, what_if_case, what_ifs_of, with_what_if}
 unfoldable pub use Rattle.wi_sheet.specs.Demand.{demand, demand_within}
@@ -66,7 +68,7 @@ pub use Rattle.wi_sheet.specs.Inner.ReadOrder.{IsReadOrder, MayFollow}
 pub use Rattle.wi_sheet.specs.Inner.Spending.{HasCase, HasEntry, IsClosed, NeverFall, RestsOn, SpentOn, Table, cost, left, plus, price}
 pub use Rattle.wi_sheet.specs.Settled.{IsSettled, IsWhatIfSettled, RestsOnKept}
 unfoldable pub use Rattle.wi_sheet.specs.Shown.{shown}
-pub use Rattle.wi_sheet.specs.TableEntry.{asks_circular, entry_demanded, open_demand, table_demand}
+pub use Rattle.wi_sheet.specs.TableEntry.{entry_demanded, open_demand, table_demand}
 unfoldable pub use Rattle.wi_sheet.specs.TableEntry.{table_entry}
 pub use Rattle.wi_sheet.specs.Unmoved.{IsMarking, IsUnmoved, SayTheSameOff}
 pub use Rattle.wi_standard_functions.specs.Arguments.{Argument, Region, region_of}

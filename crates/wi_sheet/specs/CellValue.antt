@@ -3,7 +3,6 @@ use Rattle.std.specs.Prelude.{ℕ, zero, suc, if◌then◌else◌, List, map, le
 use Rattle.wi_values.specs.declared.value.Value.{Value}
 use Rattle.wi_values.specs.declared.value.Value.TheVariants.{Empty, Fault}
 use Rattle.wi_values.specs.declared.value.ErrorKind.TheVariants.{Circular}
-use Rattle.wi_values.specs.declared.replacement.Replacement.{Replacement}
 use Rattle.wi_parser.specs.Tree.{Tree}
 use Rattle.wi_parser.specs.declared.content.Content.{Content}
 use Rattle.wi_parser.specs.declared.content.Content.TheVariants.{Constant, Formula}
@@ -17,25 +16,18 @@ value_of None of_formula = Empty
 value_of (Some (Constant v)) of_formula = v
 value_of (Some (Formula t)) of_formula = of_formula t
 
--- each input with the value of its replacement cell
-abbrev pub replacements : (ℕ → Value) → List (ℕ × ℕ) → List Replacement
-replacements cells pairs = map (λ p. record { at = p.0; value = cells p.1 }) pairs
-
 -- A what-if's value, where `value` gives that of each cell of a sheet. The replacement cells are valued in the sheet as
 -- it stands, and of two pairs for one input the second stands.
 abbrev pub what_if_in : (Sheet → ℕ → Value) → Sheet → ℕ → List (ℕ × ℕ) → Value
-what_if_in value s f pairs = value (put_all s (replacements (value s) pairs)) f
-
--- a formula's value, likewise
-abbrev pub formula_in : (Sheet → ℕ → Value) → Sheet → Tree → Value
-formula_in value s t = zero_for_empty (meaning t (value s) (what_if_in value s))
+what_if_in value s f pairs = value (put_all s (map (λ p. record { at = p.0; value = value s p.1 }) pairs)) f
 
 -- a cell's value, by at most k formulas one below the other
 unfoldable pub value_within : ℕ → Sheet → ℕ → Value
 value_within zero s c =
     if circular s c then Fault Circular else value_of (content_of s c) (λ t. Fault Circular)
 value_within (suc k) s c =
-    if circular s c then Fault Circular else value_of (content_of s c) (formula_in (value_within k) s)
+    if circular s c then Fault Circular else
+    value_of (content_of s c) (λ t. zero_for_empty (meaning t (value_within k s) (what_if_in (value_within k) s)))
 
 -- a cell's value: as many formulas as the sheet has can stand one below the other
 unfoldable pub cell_value : Sheet → ℕ → Value
@@ -48,4 +40,4 @@ what_if_value = what_if_in cell_value
 
 -- a formula's value
 abbrev pub formula_value : Sheet → Tree → Value
-formula_value = formula_in cell_value
+formula_value s t = zero_for_empty (meaning t (cell_value s) (what_if_in cell_value s))

@@ -12,7 +12,8 @@ use Rattle.wi_parser.specs.Reads.{leaf_reads}
 use Rattle.wi_arguments.specs.Assignment.{addresses}
 use Rattle.wi_graph.specs.Circular.{circular}
 use Rattle.wi_graph.specs.Reach.{reaches}
-use Rattle.wi_sheet.specs.CellValue.{replacements, cell_value}
+use Rattle.wi_sheet.specs.CellValue.{cell_value}
+use Rattle.wi_sheet.specs.Inner.Asked.{replacements}
 
 -- a cell and the replacements under which it is valued
 abbrev pub Case : Type 0
