@@ -35,7 +35,3 @@ ends_within (suc k) xs o ys (based x bases c) h = ap (λ zs. x ∷ zs) (ends_wit
 pub one_chain : (xs : List Scenario) (name : Option (List ℕ)) → IsChainOf xs name (chain xs name)
 unfolding chain
 one_chain xs name = λ ys c h. ends_within 64 xs (scenario_of xs name) ys c h
-
--- the chain of the scenario of a name, where it has one of at most so many as there may be
-abbrev pub the_chain : (xs : List Scenario) (name : Option (List ℕ)) → (ys : List Scenario) × IsChainOf xs name ys
-the_chain xs name = (chain xs name, one_chain xs name)

@@ -21,12 +21,12 @@ pub use Rattle.std.specs.Rc.{rc_str_bytes}
 pub use Rattle.std.specs.Set.{is_member}
 pub use Rattle.std.specs.Str.{bytes_eq}
 pub use Rattle.std.specs.declared.rc.RcStr.{RcStr}
-pub use Rattle.wi_scenario_list.specs.Bases.{HasChains, based_on, is_base, is_name_of, lacks, would_loop}
-pub use Rattle.wi_scenario_list.specs.Inner.Chains.{chain_within, effective}
-unfoldable pub use Rattle.wi_scenario_list.specs.Inner.Chains.{chain}
+pub use Rattle.wi_scenario_list.specs.Bases.{HasChains, IsChain, IsChainOf, based, based_on, ended, is_base, is_name_of, lacks, would_loop}
+pub use Rattle.wi_scenario_list.specs.Inner.Chains.{effective}
+unfoldable pub use Rattle.wi_scenario_list.specs.Scenarios.{chain}
 pub use Rattle.wi_scenario_list.specs.Inner.Stored.{IsSame, base_of, stored, own_of, scenario_in, with_name}
 pub use Rattle.wi_scenario_list.specs.Inner.Parts.{scenario_or_new, without_replacement}
-pub use Rattle.wi_scenario_list.specs.Scenarios.{IsChain, IsChainOf, Scenario, based, ended, has_scenario, is_full, is_named, layered, max_replacements, max_scenarios, scenario_for, scenario_of, with_own, with_replacements, with_scenario, without_own, without_scenario}
+pub use Rattle.wi_scenario_list.specs.Scenarios.{Scenario, chain_within, has_scenario, is_full, is_named, layered, max_replacements, max_scenarios, scenario_for, scenario_of, with_own, with_replacements, with_scenario, without_own, without_scenario}
 pub use Rattle.wi_scenario_list.specs.declared.layer.Layer.{Layer}
 pub use Rattle.wi_values.proofs.Order.{is_at-eq, turn_test}
 pub use Rattle.wi_values.proofs.Replacements.InOrder.{as_map-as_replacements, as_replacements-as_map, order_from_entries}

@@ -2,11 +2,11 @@
 -- what edits name.
 use Rattle.std.specs.Prelude.{◌≡◌, ◌≢◌, ℕ, Bool, true, false, if◌then◌else◌, List, [], ◌∷◌, ◌++◌, length, Option, Some, None}
 use Rattle.wi_values.specs.Address.{Area}
-use Rattle.wi_scenario_list.specs.Scenarios.{IsChain, scenario_of}
-use Rattle.wi_scenario_list.specs.Bases.{HasChains}
+use Rattle.wi_scenario_list.specs.Scenarios.{chain, scenario_of}
+use Rattle.wi_scenario_list.specs.Bases.{HasChains, IsChain}
 use Rattle.wi_sessions.specs.Sessions.{told, using_scenario, with_session, index_of}
 use Rattle.wi_scenarios.specs.State.{State}
-use Rattle.wi_scenarios.specs.Views.{current_session, with_current, chain_of}
+use Rattle.wi_scenarios.specs.Views.{current_session, with_current}
 use Rattle.wi_scenarios.specs.Changes.{change_list}
 use Rattle.wi_scenarios.specs.Events.{Event, MayFollow, state_after}
 use Rattle.wi_scenarios.specs.Commands.Command.{Command, Set, Clear, Fill, Csv, Scenario, Drop, Base, Use, As, Changes}
@@ -68,6 +68,6 @@ named_by c = if is_edit c then Some (named c) else None
 abbrev pub KeepsChains : State → List (Event Command) → Type 0
 KeepsChains s es = HasChains s.scenarios → MayFollow IsStep s es → HasChains (state_after s es).scenarios
 
--- where the scenarios have chains, what `chain_of` gives is the chain
+-- where the scenarios have chains, what `chain` gives is the chain
 abbrev pub GivesChain : State → Option (List ℕ) → Type 0
-GivesChain s name = HasChains s.scenarios → IsChain s.scenarios (scenario_of s.scenarios name) (chain_of s.scenarios name).0
+GivesChain s name = HasChains s.scenarios → IsChain s.scenarios (scenario_of s.scenarios name) (chain s.scenarios name)

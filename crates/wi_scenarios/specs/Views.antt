@@ -1,18 +1,13 @@
 -- What each session is shown.
-use Rattle.std.specs.Prelude.{ℕ, List, [], Option}
+use Rattle.std.specs.Prelude.{ℕ, List, []}
 use Rattle.std.specs.List.{slice_index_or, slice_set}
 use Rattle.wi_values.specs.declared.value.Value.{Value}
 use Rattle.wi_values.specs.declared.replacement.Replacement.{Replacement}
 use Rattle.wi_sheet.specs.Shown as cell
-use Rattle.wi_scenario_list.specs.Scenarios.{Scenario, IsChainOf, layered}
+use Rattle.wi_scenario_list.specs.Scenarios.{chain, layered}
 use Rattle.wi_scenario_list.specs.Inner.Chains.{effective}
-use Rattle.wi_scenario_list.proofs.Chains.{the_chain}
 use Rattle.wi_sessions.specs.Sessions.{Session, new_session}
 use Rattle.wi_scenarios.specs.State.{State}
-
--- a scenario's chain
-abbrev pub chain_of : (xs : List Scenario) (name : Option (List ℕ)) → (ys : List Scenario) × IsChainOf xs name ys
-chain_of = the_chain
 
 -- the i-th session
 abbrev pub session_at : State → ℕ → Session
@@ -21,16 +16,15 @@ session_at s i = slice_index_or s.sessions i (new_session [])
 abbrev pub current_session : State → Session
 current_session s = slice_index_or s.sessions s.current (new_session [])
 
--- the state with another in the place of the current session
 abbrev pub with_current : State → Session → State
 with_current s x = record s { sessions = slice_set s.sessions s.current x }
+
+abbrev pub current_replacements : State → List Replacement
+current_replacements s = layered (chain s.scenarios (current_session s).scenario)
 
 -- the replacements that a session's scenario puts in
 abbrev pub replacements_for : State → Session → List Replacement
 replacements_for s x = effective s.scenarios x.scenario
-
-abbrev pub current_replacements : State → List Replacement
-current_replacements s = layered (chain_of s.scenarios (current_session s).scenario).0
 
 -- the value that a session is shown at a cell
 abbrev pub shown_to : State → Session → ℕ → Value

@@ -28,7 +28,7 @@ pub fn runs_stay_coherent()
 {}
 
 /// In a workbook that was just made, and so after each run from there, there are no more scenarios than may be, and
-/// each has a chain: none is based on itself, at any remove, or on one that isn't there. So what `chain_of` gives, by
+/// each has a chain: none is based on itself, at any remove, or on one that isn't there. So what `chain` gives, by
 /// which commands show what scenarios put in, is the chain.
 pub fn scenarios_have_chains()
     ensures new { (stored : Stored) → HasChains (state_over stored).scenarios }

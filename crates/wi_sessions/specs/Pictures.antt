@@ -10,7 +10,6 @@ use Rattle.wi_values.specs.declared.value.Value.TheVariants.{Empty}
 use Rattle.wi_values.proofs.Equal.{the_equality}
 pub mod Laws
 
--- a test that is true exactly where two values are one
 abbrev pub equality : (test : Value → Value → Bool) × ((v w : Value) → Decides (test v w) (v ≡ w))
 equality = the_equality
 
@@ -35,7 +34,6 @@ abbrev pub with_changes : Picture → Picture → Picture
 with_changes picture [] = picture
 with_changes picture (e ∷ es) = with_changes (with_value picture e.0 e.1) es
 
--- how many cells the sheet has
 unfoldable pub sheet_size : ℕ
 sheet_size = rows * columns
 

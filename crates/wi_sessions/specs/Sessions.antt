@@ -19,16 +19,15 @@ new_session name = record { name = name; scenario = None; picture = []; seen = 0
 abbrev pub max_sessions : ℕ
 max_sessions = 64
 
-abbrev pub has_session : List Session → Bytes → Bool
-has_session xs name = list_any (λ x. bytes_eq name x.name) xs
+module _ (xs : List Session) (name : Bytes) where
+  abbrev pub has_session : Bool
+  has_session = list_any (λ x. bytes_eq name x.name) xs
 
--- the end where there is none of this name
-abbrev pub index_of : List Session → Bytes → ℕ
-index_of xs name = position_or_len (λ x. bytes_eq name x.name) xs
+  abbrev pub index_of : ℕ
+  index_of = position_or_len (λ x. bytes_eq name x.name) xs
 
--- a new one at the end where there is none of this name
-abbrev pub with_session : List Session → Bytes → List Session
-with_session xs name = if has_session xs name then xs else xs ++ new_session name ∷ []
+  abbrev pub with_session : List Session
+  with_session = if has_session then xs else xs ++ new_session name ∷ []
 
 -- a session that was told a change list when the log had this length
 abbrev pub told : Session → Picture → ℕ → Session

@@ -1,18 +1,8 @@
--- The chain of a scenario by so many steps at most, and what it puts in.
-use Rattle.std.specs.Prelude.{ℕ, zero, suc, Bool, List, [], ◌∷◌, Option, Some, None}
+-- What the chain of a scenario puts in, and which scenarios are in a part of it.
+use Rattle.std.specs.Prelude.{ℕ, Bool, List, Option}
 use Rattle.std.specs.List.{list_any}
 use Rattle.wi_values.specs.declared.replacement.Replacement.{Replacement}
-use Rattle.wi_scenario_list.specs.Scenarios.{Scenario, is_named, scenario_of, max_scenarios, layered}
-
--- a scenario, its base scenario, that one's, and so on, so many at most
-abbrev pub chain_within : ℕ → List Scenario → Option Scenario → List Scenario
-chain_within zero xs o = []
-chain_within (suc k) xs None = []
-chain_within (suc k) xs (Some x) = x ∷ chain_within k xs (scenario_of xs x.base)
-
--- the scenario of this name and those that it is based on, at any remove; there are never more than may be
-unfoldable pub chain : List Scenario → Option (List ℕ) → List Scenario
-chain xs name = chain_within max_scenarios xs (scenario_of xs name)
+use Rattle.wi_scenario_list.specs.Scenarios.{Scenario, is_named, scenario_of, chain, chain_within, layered}
 
 -- what a scenario puts in; where none is named, nothing
 abbrev pub effective : List Scenario → Option (List ℕ) → List Replacement
