@@ -9,7 +9,6 @@ use Rattle.wi_csv.specs.Row.{row}
 use Rattle.wi_fraction.specs.Text.{Bytes}
 use Rattle.wi_sessions.specs.Pictures.{Picture}
 
--- `N` number, `T` text, `L` truth value, `E` error, `-` empty
 abbrev pub kind_text : Value → Bytes
 kind_text Empty = codes "-"
 kind_text (Number x) = codes "N"

@@ -9,10 +9,10 @@ ghost use Rattle.wi_values.specs.Replacements.{IsInOrder};
 ghost use Rattle.wi_values.specs.Value.{shown_text};
 ghost use Rattle.wi_sheet.specs.Shown as show;
 ghost use Rattle.wi_csv.specs.Row.{row};
-ghost use Rattle.wi_reports.specs.Compare.{number_text, difference_text, difference_record, cells_compared};
+ghost use Rattle.wi_reports.specs.Compare.{difference_text, cells_compared};
 ghost use Rattle.wi_sheet.specs.Demand.{demanded};
 ghost use Rattle.wi_reports.specs.Looks.{Costs, both_cases, comparison_cases};
-ghost use Rattle.wi_reports.specs.Inner.Parts.{cell_compared};
+ghost use Rattle.wi_reports.specs.Inner.Parts.{cell_compared, difference_record, number_text};
 
 use crate::texts::address_text;
 use std::alloc::{AllocError, Global};
@@ -41,8 +41,9 @@ pub fn push_comparison<C: Calculator>(
     out: &mut Vec<u8>,
 ) -> Result<(), AllocError>
     requires { IsInOrder sides.now.first.now × IsInOrder sides.now.second.now }
-    ensures ok { let records = cells_compared
-        (C.stored calculator.old).sheet sides.now.first.now sides.now.second.now area in
+    ensures ok { let shown_by = show.shown (C.stored calculator.old).sheet in
+        let records = cells_compared
+        (shown_by sides.now.first.now) (shown_by sides.now.second.now) area in
         OnOk result (out.new.items ≡ out.old.items ++ records) }
     ensures err { OnErr result (out.new.items ≡ out.old.items) }
     ensures same { C.stored calculator.new ≡ C.stored calculator.old }
@@ -68,8 +69,9 @@ fn push_all<C: Calculator>(
     out: &mut Vec<u8>,
 ) -> Result<(), AllocError>
     requires { IsInOrder sides.now.first.now × IsInOrder sides.now.second.now }
-    ensures ok { let records = cells_compared
-        (C.stored calculator.old).sheet sides.now.first.now sides.now.second.now area in
+    ensures ok { let shown_by = show.shown (C.stored calculator.old).sheet in
+        let records = cells_compared
+        (shown_by sides.now.first.now) (shown_by sides.now.second.now) area in
         OnOk result (out.new.items ≡ out.old.items ++ records) }
     ensures kept { StartsWith out.new.items out.old.items }
     ensures same { C.stored calculator.new ≡ C.stored calculator.old }

@@ -3,6 +3,7 @@
 ghost use Rattle.std.specs.Prelude.{◌≡◌, ◌++◌, OnOk, OnErr};
 ghost use Rattle.std.specs.Io.{StartsWith};
 ghost use Rattle.wi_values.specs.Replacements.{IsInOrder};
+ghost use Rattle.wi_sheet.specs.Shown.{shown};
 ghost use Rattle.wi_reports.specs.Rows.{rows_shown, export_of};
 ghost use Rattle.wi_reports.specs.Looks.{Costs, rows_cases};
 ghost use Rattle.wi_reports.specs.Inner.Parts.{lines_in};
@@ -24,7 +25,8 @@ pub fn push_export<C: Calculator>(
     out: &mut Vec<u8>,
 ) -> Result<(), AllocError>
     requires { IsInOrder replacements.now }
-    ensures ok { let records = rows_shown (C.stored calculator.old).sheet replacements.now area in
+    ensures ok { let value = shown (C.stored calculator.old).sheet replacements.now in
+        let records = rows_shown value area in
         OnOk result (out.new.items ≡ out.old.items ++ export_of records) }
     ensures err { OnErr result (out.new.items ≡ out.old.items) }
     ensures same { C.stored calculator.new ≡ C.stored calculator.old }

@@ -4,6 +4,7 @@ ghost use Rattle.std.specs.Prelude.{◌≡◌, ◌++◌, ◌<◌, OnOk, OnErr};
 ghost use Rattle.std.specs.Io.{StartsWith};
 ghost use Rattle.wi_values.specs.Address.{rows, cells_of_row};
 ghost use Rattle.wi_values.specs.Replacements.{IsInOrder};
+ghost use Rattle.wi_sheet.specs.Shown.{shown};
 ghost use Rattle.wi_reports.specs.Rows.{rows_shown};
 ghost use Rattle.wi_reports.specs.Looks.{Costs, cells_cases, rows_cases};
 ghost use Rattle.wi_reports.specs.Inner.Parts.{row_shown};
@@ -25,8 +26,8 @@ pub fn push_rows<C: Calculator>(
     out: &mut Vec<u8>,
 ) -> Result<(), AllocError>
     requires { IsInOrder replacements.now }
-    ensures ok { OnOk result (out.new.items
-        ≡ out.old.items ++ rows_shown (C.stored calculator.old).sheet replacements.now area) }
+    ensures ok { let value = shown (C.stored calculator.old).sheet replacements.now in
+        OnOk result (out.new.items ≡ out.old.items ++ rows_shown value area) }
     ensures err { OnErr result (out.new.items ≡ out.old.items) }
     ensures same { C.stored calculator.new ≡ C.stored calculator.old }
     ensures cost { let sheet = (C.stored calculator.old).sheet in
@@ -51,8 +52,8 @@ fn push_all<C: Calculator>(
     out: &mut Vec<u8>,
 ) -> Result<(), AllocError>
     requires { IsInOrder replacements.now }
-    ensures ok { OnOk result (out.new.items
-        ≡ out.old.items ++ rows_shown (C.stored calculator.old).sheet replacements.now area) }
+    ensures ok { let value = shown (C.stored calculator.old).sheet replacements.now in
+        OnOk result (out.new.items ≡ out.old.items ++ rows_shown value area) }
     ensures kept { StartsWith out.new.items out.old.items }
     ensures same { C.stored calculator.new ≡ C.stored calculator.old }
     ensures cost { let sheet = (C.stored calculator.old).sheet in

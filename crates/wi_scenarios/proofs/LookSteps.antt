@@ -1,5 +1,5 @@
 -- The steps of the commands that look at cells, by what their bodies find.
-use Rattle.wi_scenarios.proofs.Words.{◌≡◌, ◌∙◌, ◌*◌, ℕ, Bool, true, false, ◌||◌, nat_lt, List, [], ◌∷◌, ◌++◌, length, Option, Some, None, Result, Ok, Err, refl, sym, ap, subst, arith, list_any, or-false, Area, size_of, effective, lacks, rows_shown, export_of, cells_compared, content_record, change_records, told, Refusal, State, max_area, current_session, with_current, current_replacements, Answer, Serves, change_list}
+use Rattle.wi_scenarios.proofs.Words.{◌≡◌, ◌∙◌, ◌*◌, ℕ, Bool, true, false, ◌||◌, nat_lt, List, [], ◌∷◌, ◌++◌, length, Option, Some, None, Result, Ok, Err, refl, sym, ap, subst, arith, list_any, or-false, Area, size_of, effective, lacks, rows_shown, export_of, cells_compared, shown, content_record, change_records, told, Refusal, State, max_area, current_session, with_current, current_replacements, Answer, Serves, change_list}
 use Rattle.wi_scenarios.specs.declared.refusal.Refusal.TheVariants as refusal
 use Rattle.wi_scenarios.specs.Inner.Placed.{IsPlaced, IsSpanned}
 use Rattle.wi_scenarios.proofs.CommandWords.{Command, Show, Export, Compare, Formula, Changes, form, Cell, Corners, RECT, SIDE, is_outside, address, area, cell, corners, Put, Puts, Cause, Outside, TooLarge, NoScenario, lies_outside, is_missing, size, stale_cell, Does, IsStep, causes}
@@ -49,7 +49,7 @@ module _ (s : State) (r : Corners) (missing : Bool) (c : Command) (tested : (x :
 
 module _ (s : State) (r : Corners) where
   abbrev pub shown_in : Area → State × List ℕ
-  shown_in a = (s, rows_shown s.stored.sheet (current_replacements s) a)
+  shown_in a = (s, rows_shown (shown s.stored.sheet (current_replacements s)) a)
 
   show_tested : (x : Cause) → IsTested s (Show r) (area_test r false) x
   show_tested Outside = (λ e. e, λ h. h)
@@ -61,7 +61,7 @@ module _ (s : State) (r : Corners) where
   show_step out big eo eb = area_step s r false (Show r) show_tested refl (λ q h. h) (shown_in (area r)) refl out big false eo eb refl
 
   abbrev pub exported_in : Area → State × List ℕ
-  exported_in a = (s, export_of (rows_shown s.stored.sheet (current_replacements s) a))
+  exported_in a = (s, export_of (rows_shown (shown s.stored.sheet (current_replacements s)) a))
 
   export_tested : (x : Cause) → IsTested s (Export r) (area_test r false) x
   export_tested Outside = (λ e. e, λ h. h)
@@ -78,7 +78,7 @@ side_missing s (Some name) = refl
 
 module _ (s : State) (p q : Option (List ℕ)) (r : Corners) where
   abbrev pub compared_in : Area → State × List ℕ
-  compared_in a = (s, cells_compared s.stored.sheet (effective s.scenarios p) (effective s.scenarios q) a)
+  compared_in a = (s, cells_compared (shown s.stored.sheet (effective s.scenarios p)) (shown s.stored.sheet (effective s.scenarios q)) a)
 
   missing_is : list_any (is_missing s) (form (Compare p q r)) ≡ (lacks s.scenarios p || lacks s.scenarios q)
   missing_is =

@@ -55,10 +55,10 @@ pub use Rattle.wi_reports.specs.Rows.{export_of, rows_shown}
 pub use Rattle.wi_reports.specs.Table.{table_of}
 pub use Rattle.wi_scenario_list.proofs.Named.{found_with, found_without, not_based, scenario_without}
 pub use Rattle.wi_scenario_list.specs.Bases.{based_on, is_base, is_name_of, lacks, would_loop}
-pub use Rattle.wi_scenario_list.specs.Inner.Chains.{chain_within, effective}
-unfoldable pub use Rattle.wi_scenario_list.specs.Inner.Chains.{chain}
+pub use Rattle.wi_scenario_list.specs.Inner.Chains.{effective}
+unfoldable pub use Rattle.wi_scenario_list.specs.Scenarios.{chain}
 pub use Rattle.wi_scenario_list.specs.Inner.Parts.{scenario_or_new}
-pub use Rattle.wi_scenario_list.specs.Scenarios.{Scenario, has_scenario, is_full, is_named, layered, max_scenarios, scenario_for, scenario_of, with_own, with_scenario, without_own, without_scenario}
+pub use Rattle.wi_scenario_list.specs.Scenarios.{Scenario, chain_within, has_scenario, is_full, is_named, layered, max_scenarios, scenario_for, scenario_of, with_own, with_scenario, without_own, without_scenario}
 pub use Rattle.wi_scenarios.specs.Answer.{Answer, MayRefuse, MayRefuseData, Serves, ServesData, field_refusal, import_refusal, may_grow, parse_refusal, shift_refusal}
 pub use Rattle.wi_scenarios.specs.Asked.{asked_by_changes, asked_by_compare, asked_by_show, asked_by_table}
 pub use Rattle.wi_scenarios.specs.Changes.{change_list}

@@ -6,7 +6,6 @@ use Rattle.wi_scenario_list.specs.Scenarios.{Scenario}
 use Rattle.wi_sessions.specs.Sessions.{Session, new_session}
 
 pub record State : Type 0 where
-  -- the sheet, with the count of accepted edits and the limits of both
   pub stored : Stored
   -- each in the order of making
   pub scenarios : List Scenario
@@ -24,6 +23,5 @@ state_over stored =
 abbrev pub new_state : State
 new_state = state_over (record { sheet = []; edits = 0; limits = record { cells = 200000; edits = 1000000000 } })
 
--- the most cells, or entries of a table, that a command may ask for
 abbrev pub max_area : ℕ
 max_area = 65536

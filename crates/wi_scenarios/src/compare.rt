@@ -4,6 +4,7 @@ ghost use Rattle.std.specs.Prelude.{◌≡◌, ◌++◌, ◌||◌, ℕ, List, On
 ghost use Rattle.std.specs.Option.{option_copied};
 ghost use Rattle.wi_scenario_list.specs.Inner.Chains.{effective};
 ghost use Rattle.wi_scenario_list.specs.Bases.{lacks};
+ghost use Rattle.wi_sheet.specs.Shown.{shown};
 ghost use Rattle.wi_reports.specs.Compare.{cells_compared};
 ghost use Rattle.wi_reports.specs.Looks.{Costs, comparison_cases};
 ghost use Rattle.wi_scenarios.specs.Answer.{Serves};
@@ -76,9 +77,10 @@ fn push_differences<C: Calculator>(
     out: &mut Vec<u8>,
 ) -> Result<(), AllocError>
     ensures ok { let under = effective desk.now.scenarios in
+        let shown_by = shown (C.stored calculator.old).sheet in
         OnOk result (out.new.items ≡ out.old.items ++ cells_compared
-        (C.stored calculator.old).sheet (under (option_copied compared.now.first))
-        (under (option_copied compared.now.second)) area) }
+        (shown_by (under (option_copied compared.now.first)))
+        (shown_by (under (option_copied compared.now.second))) area) }
     ensures err { OnErr result (out.new.items ≡ out.old.items) }
     ensures same { C.stored calculator.new ≡ C.stored calculator.old }
     ensures cost { let sheet = (C.stored calculator.old).sheet in

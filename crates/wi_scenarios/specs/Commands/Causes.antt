@@ -13,10 +13,10 @@ use Rattle.wi_parser.specs.Symbol.{bad_token}
 use Rattle.wi_parser.specs.Tree.{Tree}
 use Rattle.wi_import.specs.Fields.{IsInside}
 use Rattle.wi_edit_log.specs.EditLog.{first_stale}
-use Rattle.wi_scenario_list.specs.Scenarios.{has_scenario, is_full}
+use Rattle.wi_scenario_list.specs.Scenarios.{chain, has_scenario, is_full}
 use Rattle.wi_sessions.specs.Sessions.{has_session, max_sessions}
 use Rattle.wi_scenarios.specs.State.{State, max_area}
-use Rattle.wi_scenarios.specs.Views.{current_session, chain_of}
+use Rattle.wi_scenarios.specs.Views.{current_session}
 use Rattle.wi_scenarios.specs.Commands.DataLines.{max_line, without_lf}
 use Rattle.wi_scenarios.specs.Commands.Operands.{Cell, Corners, is_outside, address, area, Operand, ADDR, RECT, NAME, SIDE, ANY}
 use Rattle.wi_scenarios.specs.Commands.Command.{Command, Set, Clear, Fill, Csv, Scenario, Drop, Base, As, Table, Unknown, Unreadable, form}
@@ -60,7 +60,6 @@ module _ (s : State) where
   is_missing (SIDE (Some name)) = not (has_scenario s.scenarios name)
   is_missing o = false
 
-  -- the first stale cell, in row-major order, of those that an edit names
   abbrev pub stale_cell : Command → Option ℕ
   stale_cell c = first_stale s.log s.current (current_session s).seen (named c)
 
@@ -108,14 +107,13 @@ module _ (s : State) where
   -- The edit names a stale cell, and isn't forced.
   Holds Stale c = (is_forced c ≡ false) × (stale_cell c ≢ None)
   -- OTHER is NAME, or is based on it at any remove.
-  Holds Loop (Base name (Some other)) = Any (λ x. x.name ≡ name) (chain_of s.scenarios (Some other)).0
+  Holds Loop (Base name (Some other)) = Any (λ x. x.name ≡ name) (chain s.scenarios (Some other))
   -- The sheet would have too many occupied cells.
   Holds Full c = (puts : List Put) × Puts s c puts × (s.stored.limits.cells < length (sheet_with s puts))
   -- There were as many edits as there may be.
   Holds EditLimit c = (puts : List Put) × Puts s c puts × (s.stored.limits.edits ≤ s.stored.edits)
   Holds cause c = ⊥
 
-  -- the first of these that holds
   abbrev pub IsFirst : Command → List (Cause × Bytes) → Cause × Bytes → Type 0
   IsFirst c [] y = ⊥
   IsFirst c (x ∷ xs) y = (Holds x.0 c × (y ≡ x)) ⊎ ((Holds x.0 c → ⊥) × IsFirst c xs y)

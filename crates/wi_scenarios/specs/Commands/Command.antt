@@ -25,7 +25,6 @@ abbrev pub may_force : Bool → List Operand → List Operand
 may_force true os = WORD (codes "force") ∷ os
 may_force false os = os
 
--- how each command is written
 abbrev pub form : Command → List Operand
 form (Set force at text) = may_force force (WORD (codes "set") ∷ ADDR at ∷ CONTENT text ∷ [])
 form (Clear force rect) = may_force force (WORD (codes "clear") ∷ RECT rect ∷ [])

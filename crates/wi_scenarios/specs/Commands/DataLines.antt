@@ -3,11 +3,10 @@ use Rattle.std.specs.Prelude.{ℕ, ◌==◌, [], ◌∷◌, if◌then◌else◌}
 use Rattle.std.specs.Str.{byte}
 use Rattle.wi_fraction.specs.Text.{Bytes}
 
--- a line without its LF
 abbrev pub without_lf : Bytes → Bytes
 without_lf [] = []
 without_lf (b ∷ bs) = if b == byte "\n" then [] else b ∷ without_lf bs
 
--- the greatest length of a line without its LF
+-- without its LF
 abbrev pub max_line : ℕ
 max_line = 65536

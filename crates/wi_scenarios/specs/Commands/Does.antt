@@ -3,23 +3,24 @@ use Rattle.std.specs.Prelude.{◌≡◌, length, List, [], ◌∷◌, Some, opti
 use Rattle.wi_fraction.specs.Text.{Bytes}
 use Rattle.wi_values.specs.declared.value.Value.{Value}
 use Rattle.wi_values.specs.Imported.{IsImported}
-use Rattle.wi_scenario_list.specs.Scenarios.{scenario_for, with_scenario, without_scenario, with_own, without_own, layered}
+use Rattle.wi_scenario_list.specs.Scenarios.{scenario_for, with_scenario, without_scenario, with_own, without_own, chain, layered}
 use Rattle.wi_scenario_list.specs.Scenarios as list
-use Rattle.wi_sessions.specs.Sessions.{with_session, index_of, told}
+use Rattle.wi_sheet.specs.Shown.{shown}
+use Rattle.wi_sessions.specs.Sessions.{with_session, index_of}
+use Rattle.wi_sessions.specs.Pictures.{with_changes}
 use Rattle.wi_reports.specs.Rows.{rows_shown, export_of}
 use Rattle.wi_reports.specs.Changes.{change_records}
 use Rattle.wi_reports.specs.Compare.{cells_compared}
 use Rattle.wi_reports.specs.Table.{table_of}
 use Rattle.wi_reports.specs.Contents.{content_record}
 use Rattle.wi_scenarios.specs.State.{State}
-use Rattle.wi_scenarios.specs.Views.{current_session, with_current, current_replacements, chain_of}
+use Rattle.wi_scenarios.specs.Views.{current_session, with_current, current_replacements}
 use Rattle.wi_scenarios.specs.Changes.{change_list}
 use Rattle.wi_scenarios.specs.Commands.Operands.{address, area}
 use Rattle.wi_scenarios.specs.Commands.Command.{Command, Scenario, Drop, Base, Use, As, Show, Export, Changes, Compare, Table, Formula}
 use Rattle.wi_scenarios.specs.Commands.Edits.{after_edit, Put, Puts}
 
 module _ (s : State) where
-  -- the state with a scenario made or changed
   abbrev pub state_with : list.Scenario → State
   state_with x = record s { scenarios = with_scenario s.scenarios x }
 
@@ -36,12 +37,19 @@ module _ (s : State) where
   Does (Use name) done = done ≡ (with_current s (record (current_session s) { scenario = name }), [])
   Does (As name) done =
       done ≡ (record s { sessions = with_session s.sessions name; current = index_of s.sessions name }, [])
-  Does (Show rect) done = done ≡ (s, rows_shown s.stored.sheet (current_replacements s) (area rect))
-  Does (Export rect) done = done ≡ (s, export_of (rows_shown s.stored.sheet (current_replacements s) (area rect)))
+  Does (Show rect) done = done ≡ (s, rows_shown (shown s.stored.sheet (current_replacements s)) (area rect))
+  Does (Export rect) done = done ≡ (s, export_of (rows_shown (shown s.stored.sheet (current_replacements s)) (area rect)))
   Does Changes done =
-      done ≡ (with_current s (told (current_session s) (change_list s) (length s.log)), change_records (change_list s))
+      done ≡ (
+        with_current s (record (current_session s) { picture = with_changes (current_session s).picture (change_list s); seen = length s.log }),
+        change_records (change_list s),
+      )
   Does (Compare p q rect) done =
-      done ≡ (s, cells_compared s.stored.sheet (layered (chain_of s.scenarios p).0) (layered (chain_of s.scenarios q).0) (area rect))
+      done ≡ (
+        s,
+        cells_compared (shown s.stored.sheet (layered (chain s.scenarios p))) (shown s.stored.sheet (layered (chain s.scenarios q)))
+            (area rect),
+      )
   Does (Table f r xs second) done =
       done ≡ (
         s,

@@ -24,11 +24,9 @@ is_forced (Fill force at rect) = force
 is_forced (Csv force at n lines) = force
 is_forced c = false
 
--- the fields of an import
 abbrev pub fields : Cell → List Bytes → List Field
 fields at lines = fields_from at.row at.column (recs (concat lines))
 
--- the rectangles that an edit names
 abbrev pub named : Command → List Area
 named (Set force at text) = area (at, at) ∷ []
 named (Clear force rect) = area rect ∷ []
@@ -47,7 +45,6 @@ abbrev pub Put : Type 0
 Put = ℕ × Option Content
 
 module _ (s : State) where
-  -- the copy of one cell for another, if there is one
   abbrev pub copy_in : ℕ → ℕ → Option (Option Content)
   copy_in from to =
       copied (pos (row_of to) -ℤ pos (row_of from)) (pos (column_of to) -ℤ pos (column_of from)) (content_of s.stored.sheet from)
@@ -60,7 +57,6 @@ module _ (s : State) where
   Puts (Csv force (Some at) n lines) puts = AllZip IsChange (fields at lines) puts
   Puts c puts = ⊥
 
-  -- the sheet after an edit, and the state, whose log has it
   abbrev pub sheet_with : List Put → Sheet
   sheet_with puts = edited s.stored.sheet (map (λ p. (p.0, without_empty p.1)) puts)
 

@@ -12,11 +12,10 @@ pub record Cell : Type 0 where
 abbrev pub Corners : Type 0
 Corners = Cell × Cell
 
--- the sheet doesn't have the cell
 abbrev pub is_outside : Cell → Bool
 is_outside c = nat_le rows c.row || nat_le columns c.column
 
--- the address of a cell, and the rectangle of two corners, where the sheet has them
+-- where the sheet has it
 abbrev pub address : Cell → ℕ
 address c = place c.row c.column
 

@@ -1,4 +1,4 @@
-use Rattle.wi_scenarios.proofs.Words.{◌∙◌, ◌++◌, List, sym, ap, subst, option_copied, on_ok_weaker, IsInOrder, Replacement, effective, cells_compared, asked_same, nothing_asked, comparison_cases}
+use Rattle.wi_scenarios.proofs.Words.{◌∙◌, ◌++◌, List, sym, ap, subst, option_copied, on_ok_weaker, IsInOrder, Replacement, effective, cells_compared, shown, asked_same, nothing_asked, comparison_cases}
 use Rattle.wi_scenarios.proofs.compare.push_differences.Goals as goal
 
 pub push_comparison-requires : goal.push_comparison-requires
@@ -11,8 +11,8 @@ returns-clause-ok g c =
     let before = c.args.out.now.items in
     on_ok_weaker c.push_comparison.result
     (λ wrote. wrote
-    ∙ ap (λ (rs : List Replacement). before ++ cells_compared sheet rs c.deref-2.result.now c.args.area) (c.deref.ensures.value ∙ c.in_ok-before.ensures.value)
-    ∙ ap (λ (rs : List Replacement). before ++ cells_compared sheet (effective c.args.desk.now.scenarios (option_copied c.args.compared.now.first)) rs c.args.area) (c.deref-2.ensures.value ∙ c.in_ok-after.ensures.value))
+    ∙ ap (λ (rs : List Replacement). before ++ cells_compared (shown sheet rs) (shown sheet c.deref-2.result.now) c.args.area) (c.deref.ensures.value ∙ c.in_ok-before.ensures.value)
+    ∙ ap (λ (rs : List Replacement). before ++ cells_compared (shown sheet (effective c.args.desk.now.scenarios (option_copied c.args.compared.now.first))) (shown sheet rs) c.args.area) (c.deref-2.ensures.value ∙ c.in_ok-after.ensures.value))
     c.push_comparison.ensures.ok
 
 pub returns-in_err-before-clause-cost : goal.returns-in_err-before-clause-cost

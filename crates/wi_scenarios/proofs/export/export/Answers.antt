@@ -1,4 +1,4 @@
-use Rattle.wi_scenarios.proofs.Words.{◌∙◌, ◌++◌, [], true, false, List, Ok, refl, sym, ap, append-nil, state_of, export_of, rows_shown, asked_same, nothing_asked, rows_cases, Replacement}
+use Rattle.wi_scenarios.proofs.Words.{◌∙◌, ◌++◌, [], true, false, List, Ok, refl, sym, ap, append-nil, state_of, export_of, rows_shown, shown, asked_same, nothing_asked, rows_cases, Replacement}
 use Rattle.wi_scenarios.proofs.CommandWords.{Export, corners, IsStep}
 use Rattle.wi_scenarios.proofs.LookLemmas.{look_lacked, look_done}
 use Rattle.wi_scenarios.proofs.LookSteps.{export_of_area, exported_in}
@@ -28,7 +28,7 @@ returns-clause-step g c =
     look_done (IsStep s (Export (corners c.args.area))) s (state_of (g.C.Calculator.stored c.push_export.new.calculator) c.args.desk.now) c.args.out.now.items c.push_export.new.out.items
     (exported_in s (corners c.args.area) c.args.area).1
     (export_of_area s c.args.area c.is_spanned.ensures false (sym c.is_too_large.ensures ∙ c.if-is_too_large.false))
-    (c.in_ok-push_export.ensures.ok ∙ ap (λ (rs : List Replacement). c.args.out.now.items ++ export_of (rows_shown (g.C.Calculator.stored c.args.calculator.now).sheet rs c.args.area)) (c.deref.ensures.value ∙ c.in_ok-put.ensures.value))
+    (c.in_ok-push_export.ensures.ok ∙ ap (λ (rs : List Replacement). c.args.out.now.items ++ export_of (rows_shown (shown (g.C.Calculator.stored c.args.calculator.now).sheet rs) c.args.area)) (c.deref.ensures.value ∙ c.in_ok-put.ensures.value))
     (ap (λ x. state_of x c.args.desk.now) c.in_ok-push_export.ensures.same)
 
 pub returns-then-is_too_large-clause-cost : goal.returns-then-is_too_large-clause-cost
