@@ -26,7 +26,6 @@ module _ (left : Option Bytes) (s t : State) (input out : Bytes) where
   abbrev pub lines : List Bytes
   lines = raw_lines input
 
-  -- which commands are answered, for each way in which a run can end
   abbrev pub Outcome : Result (Unit {0}) RunFault → Type 0
   Outcome (Ok _) = (length lines ≤ max_lines) × Answers true false lines
   Outcome (Err Memory) = (input ≡ []) × (out ≡ []) × (t ≡ s)
@@ -35,7 +34,6 @@ module _ (left : Option Bytes) (s t : State) (input out : Bytes) where
   Outcome (Err Write) =
       Answers false true (filter is_whole (take max_lines lines)) ⊎ (IsAtEnd left × (length lines ≤ max_lines) × Answers true true lines)
 
--- a run, of a source and a sink that it leaves so
 pub record IsRun {R W : Type 0} (remaining : R → Option Bytes) (read_failed : R → Bool) (contents : W → Option Bytes)
     (write_failed flushed : W → Bool) (r : Result (Unit {0}) RunFault) (source source' : R) (sink sink' : W) (s t : State) : Type 0 where
   pub input : Bytes

@@ -28,7 +28,6 @@ MayLackMemory s (As name) =
 MayLackMemory s (Csv force (Some at) n lines) = is_outside at ≡ false
 MayLackMemory s c = (x : Cause × Bytes) → IsFirst s c order x → Contains late x.0
 
--- the command has this reply and leaves this state
 pub data Replies (s : State) (c : Command) : Bytes → State → Type 0 where
   accepted : (t : State) (records : Bytes) → ((cause : Cause) → Holds s cause c → ⊥) → Does s c (t, records)
       → Replies s c (records ++ codes "ok\n") t

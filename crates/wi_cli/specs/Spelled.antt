@@ -19,20 +19,20 @@ pub data IsRect : Bytes → Corners → Type 0 where
   a_cell : (word : Bytes) (c : Cell) → IsAddr word c → IsRect word (c, c)
   two_cells : (v w : Bytes) (c d : Cell) → IsAddr v c → IsAddr w d → IsRect (v ++ codes ":" ++ w) (c, d)
 
--- the word spells the operand
-abbrev pub IsSpelled : Bytes → Operand → Type 0
-IsSpelled word (WORD w) = word ≡ w
-IsSpelled word (ADDR c) = IsAddr word c
-IsSpelled word (RECT r) = IsRect word r
-IsSpelled word (NAME name) = (word ≡ name) × IsTrue (is_name name)
-IsSpelled word (SESSION name) = (word ≡ name) × IsTrue (is_name name)
-IsSpelled word (SIDE (Some name)) = (word ≡ name) × IsTrue (is_name name)
-IsSpelled word (SIDE None) = word ≡ codes "-"
-IsSpelled word (ANY (Some c)) = IsAddr word c
-IsSpelled word (ANY None) = (word ≢ []) × ((c : Cell) → IsAddr word c → ⊥)
-IsSpelled word (LINES n) =
-    (word ≢ []) × (length word ≤ 7) × IsTrue (all_ascii_digits word) × (digits_value 10 word ≡ n) × (n ≤ 1000000)
-IsSpelled word (CONTENT text) = ⊥
+module _ (word : Bytes) where
+  abbrev pub IsSpelled : Operand → Type 0
+  IsSpelled (WORD w) = word ≡ w
+  IsSpelled (ADDR c) = IsAddr word c
+  IsSpelled (RECT r) = IsRect word r
+  IsSpelled (NAME name) = (word ≡ name) × IsTrue (is_name name)
+  IsSpelled (SESSION name) = (word ≡ name) × IsTrue (is_name name)
+  IsSpelled (SIDE (Some name)) = (word ≡ name) × IsTrue (is_name name)
+  IsSpelled (SIDE None) = word ≡ codes "-"
+  IsSpelled (ANY (Some c)) = IsAddr word c
+  IsSpelled (ANY None) = (word ≢ []) × ((c : Cell) → IsAddr word c → ⊥)
+  IsSpelled (LINES n) =
+      (word ≢ []) × (length word ≤ 7) × IsTrue (all_ascii_digits word) × (digits_value 10 word ≡ n) × (n ≤ 1000000)
+  IsSpelled (CONTENT text) = ⊥
 
 -- Each operand is spelled by a word, spaces before, between and behind. CONTENT is everything after the one space that
 -- follows the word before it.

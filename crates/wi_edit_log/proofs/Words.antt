@@ -13,9 +13,9 @@ pub use Rattle.std.specs.Cmp.Derive.{one_truth}
 pub use Rattle.std.specs.List.{flat_map, fold, list_any, range_with_len, reduce}
 pub use Rattle.std.specs.List.Sorted.{IsNonDecreasingBy}
 pub use Rattle.std.specs.Prelude.{if◌then◌else◌, nat_le, nat_lt}
-pub use Rattle.wi_edit_log.specs.EditLog.{Entry, first_stale, is_stale}
+pub use Rattle.wi_edit_log.specs.EditLog.{Entry, first_stale}
 pub use Rattle.wi_edit_log.specs.Inner.Edits.{AreCounted, AreInRuns, IsCount, IsInRun, entries_in, entry_in, is_named_by_others, is_wanted_of_others}
-pub use Rattle.wi_edit_log.specs.Inner.First.{IsAtOrBefore, IsFirst, in_both, in_each, in_one, is_after}
+pub use Rattle.wi_edit_log.specs.Inner.First.{IsAtOrBefore, IsFirst, in_both, in_each, in_one, is_after, is_stale}
 pub use Rattle.wi_edit_log.specs.Inner.Narrow.{are_narrow}
 pub use Rattle.wi_edit_log.specs.Inner.Noted.{AreNoted, IsKept, NotesMore, before_of, is_named_narrowly, is_named_widely, is_noted_stale_of, is_wanted_narrowly, is_wanted_noted_stale, is_wanted_widely, last_after, last_of, names_for, names_narrowly, names_widely}
 pub use Rattle.wi_edit_log.specs.Inner.Rising.{are_rising, begins_from, rise_from}

@@ -16,7 +16,6 @@ pub data IsFieldContent : Bytes → Option Content → Type 0 where
   no_content : IsFieldContent [] None
   a_constant : (bytes : Bytes) (v : Value) → bytes ≢ [] → IsImported bytes (Some v) → IsFieldContent bytes (Some (Constant v))
 
--- a field's cell, and what it puts there
 abbrev pub IsChange : Field → ℕ × Option Content → Type 0
 IsChange f change = (change.0 ≡ place f.row f.column) × IsFieldContent f.bytes change.1
 

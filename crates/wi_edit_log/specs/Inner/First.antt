@@ -1,6 +1,12 @@
 -- The first cell that passes a test.
-use Rattle.std.specs.Prelude.{◌≡◌, ℕ, ◌≤◌, Bool, true, ◌&&◌, nat_lt, List, Option, Some, None, IfSome}
+use Rattle.std.specs.Prelude.{◌≡◌, ℕ, ◌≤◌, Bool, true, ◌==◌, ◌&&◌, not, nat_lt, List, drop, Option, Some, None, IfSome}
+use Rattle.std.specs.List.{list_any}
 use Rattle.wi_values.specs.Address.{Area, is_within, is_within_one}
+use Rattle.wi_edit_log.specs.EditLog.{Entry}
+
+-- an edit of another session after the first `since` names the cell
+abbrev pub is_stale : List Entry → ℕ → ℕ → ℕ → Bool
+is_stale log session since a = list_any (λ e. not (e.session == session) && is_within_one e.cells a) (drop since log)
 
 -- there is a cell, and it stands at a or before
 abbrev pub IsAtOrBefore : Option ℕ → ℕ → Type 0
