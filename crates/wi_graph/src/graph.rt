@@ -17,8 +17,9 @@ ghost use Rattle.wi_graph.specs.Inner.Changes.{Brings};
 ghost use Rattle.wi_graph.specs.Inner.Rooms.{room_at, AreInOrder, HasNoIdle, IsGraph, IsStaged};
 ghost use Rattle.wi_graph.specs.Inner.Turning.{AreTurns};
 
-use crate::beyond::{Cells, listed_beyond};
+use crate::beyond::listed_beyond;
 use crate::cell_set::CellSet;
+use crate::cells::Cells;
 use crate::changes::rooms_of;
 use crate::cone::{any_is_read, listed_cone};
 use crate::rooms::{Coming, Rooms, cancel_rooms, commit_rooms};

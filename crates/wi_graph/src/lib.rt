@@ -5,6 +5,7 @@ mod below;
 mod beyond;
 mod bounds;
 mod cell_set;
+mod cells;
 mod changes;
 mod closing;
 mod cone;
@@ -21,7 +22,6 @@ mod turning;
 mod watch;
 mod within;
 
-pub use beyond::Cells;
-pub use changes::{EditedCells, edited_cells};
+pub use cells::{Cells, edited_cells};
 pub use graph::Graph;
 pub use watch::Watch;

@@ -12,7 +12,7 @@ ghost use Rattle.wi_graph.specs.Inner.Below.{ReachesNot, ReadsApart};
 
 use crate::below::{begin_below, go_below, is_clear};
 use crate::cell_set::CellSet;
-use crate::changes::changed_cells;
+use crate::cells::edited_cells;
 use crate::closing::meets_cyclic;
 use crate::cone::{enqueue, listed_cone};
 use crate::rooms::{Brought, Rooms};
@@ -38,7 +38,7 @@ pub(crate) fn cone_unless_apart(
         IfSome o (λ cone. IsConeOf readers.now (keys_of changes.now) cone.items)) }
     ensures apart { IfOk result (λ o. IfNone o (ReadsApart rooms.now next.now cyclic.now)) }
 {
-    let cells = changed_cells(alloc, changes)?;
+    let cells = edited_cells(alloc, changes)?;
     listed_unless_apart(alloc, rooms, readers, cyclic, next, &cells)
 }
 
