@@ -22,6 +22,7 @@ use crate::cell_set::CellSet;
 use crate::cells::Cells;
 use crate::changes::rooms_of;
 use crate::cone::{any_is_read, listed_cone};
+use crate::edit::Edit;
 use crate::rooms::{Coming, Rooms, cancel_rooms, commit_rooms};
 use crate::sets::take_away;
 use crate::staging::bring_in;
@@ -203,7 +204,14 @@ fn make_ready(
     ensures err { OnErr result (IsGraph rooms.new readers.new cyclic.new) }
 {
     let next = rooms_of(alloc, rooms, changes)?;
-    let turns = turns_of(alloc, rooms, readers, cyclic, &next, changes)?;
+    let edit = Edit {
+        rooms,
+        readers,
+        cyclic,
+        next: &next,
+        changes,
+    };
+    let turns = turns_of(alloc, &edit)?;
     bring(rooms, readers, cyclic, next, turns)
 }
 

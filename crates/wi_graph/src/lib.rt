@@ -9,6 +9,7 @@ mod cells;
 mod changes;
 mod closing;
 mod cone;
+mod edit;
 mod graph;
 pub mod laws;
 mod pinned;
