@@ -7,7 +7,7 @@ use wi_ranges::RangeIndex;
 
 /// What an edit brings, beside the graph before it.
 #[derive(Drop)]
-pub(crate) struct Edit<'a> {
+pub(crate) struct GraphEdit<'a> {
     pub(crate) rooms: &'a Rooms,
     pub(crate) readers: &'a RangeIndex,
     /// The circular cells.

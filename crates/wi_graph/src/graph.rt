@@ -22,7 +22,7 @@ use crate::cell_set::CellSet;
 use crate::cells::Cells;
 use crate::changes::rooms_of;
 use crate::cone::{any_is_read, listed_cone};
-use crate::edit::Edit;
+use crate::edit::GraphEdit;
 use crate::rooms::{Coming, Rooms, cancel_rooms, commit_rooms};
 use crate::sets::take_away;
 use crate::staging::bring_in;
@@ -204,7 +204,7 @@ fn make_ready(
     ensures err { OnErr result (IsGraph rooms.new readers.new cyclic.new) }
 {
     let next = rooms_of(alloc, rooms, changes)?;
-    let edit = Edit {
+    let edit = GraphEdit {
         rooms,
         readers,
         cyclic,

@@ -15,7 +15,7 @@ use crate::cell_set::CellSet;
 use crate::cells::edited_cells;
 use crate::closing::meets_cyclic;
 use crate::cone::{enqueue, listed_cone};
-use crate::edit::Edit;
+use crate::edit::GraphEdit;
 use crate::rooms::{Brought, Rooms};
 use std::alloc::{AllocError, Global};
 use wi_ranges::{RangeIndex, RisingSet};
@@ -27,7 +27,7 @@ use wi_values::Address;
 /// of a cell.
 pub(crate) fn cone_unless_apart(
     alloc: Global,
-    edit: &Edit<'_>,
+    edit: &GraphEdit<'_>,
 ) -> Result<Option<Vec<Address>>, AllocError>
     requires { IsOrdered nat_cmp edit.now.rooms.now }
     ensures cone { IfOk result (λ o. IfSome o
@@ -42,7 +42,7 @@ pub(crate) fn cone_unless_apart(
 /// What `cone_unless_apart` gives, at its cost, where the edited cells are listed.
 fn listed_unless_apart(
     alloc: Global,
-    edit: &Edit<'_>,
+    edit: &GraphEdit<'_>,
     cells: &[Address],
 ) -> Result<Option<Vec<Address>>, AllocError>
     requires { IsOrdered nat_cmp edit.now.rooms.now }

@@ -14,7 +14,7 @@ ghost use Rattle.wi_graph.specs.Inner.Turning.{AreTurns, FindsCyclic};
 
 use crate::cell_set::CellSet;
 use crate::closing::{closes_cycle, meets_cyclic, stands_apart};
-use crate::edit::Edit;
+use crate::edit::GraphEdit;
 use crate::pinned::pinned_set;
 use crate::reads::reads_of;
 use crate::sets::{insert_all, listed, set_of, take_away, without};
@@ -37,7 +37,7 @@ pub(crate) struct Turns {
 /// one cell gets something else that reads neither it nor a formula, and isn't circular. Where it reads formulas, none
 /// of them circular, the work grows with the shorter of two searches, among what depends on the cell and among what it
 /// is to read at any remove.
-pub(crate) fn turns_of(alloc: Global, edit: &Edit<'_>) -> Result<Turns, AllocError>
+pub(crate) fn turns_of(alloc: Global, edit: &GraphEdit<'_>) -> Result<Turns, AllocError>
     requires graph { IsGraph edit.now.rooms.now edit.now.readers.now edit.now.cyclic.now }
     requires order { AreInOrder edit.now.next.now }
     requires brings { Brings edit.now.rooms.now edit.now.next.now edit.now.changes.now }
@@ -68,7 +68,7 @@ fn lone_unread(readers: &RangeIndex, changes: &[NewContent]) -> Option<Address>
 }
 
 /// The turns by an edit of several cells, or of one that a formula reads: the cone is searched for.
-fn turns_of_read(alloc: Global, edit: &Edit<'_>) -> Result<Turns, AllocError>
+fn turns_of_read(alloc: Global, edit: &GraphEdit<'_>) -> Result<Turns, AllocError>
     requires graph { IsGraph edit.now.rooms.now edit.now.readers.now edit.now.cyclic.now }
     requires order { AreInOrder edit.now.next.now }
     requires brings { Brings edit.now.rooms.now edit.now.next.now edit.now.changes.now }
@@ -88,7 +88,7 @@ fn turns_of_read(alloc: Global, edit: &Edit<'_>) -> Result<Turns, AllocError>
 /// rectangle around the cone or that around the circular cells meets it, times the logarithms of their counts. Else it
 /// grows also with the cone and what its cells read, times logarithms.
 #[inline(always)]
-fn turns_in_cone(alloc: Global, edit: &Edit<'_>, cone: &[Address]) -> Result<Turns, AllocError>
+fn turns_in_cone(alloc: Global, edit: &GraphEdit<'_>, cone: &[Address]) -> Result<Turns, AllocError>
     requires cyclic { AreCyclic (room_at edit.now.rooms.now)
         (contains nat_cmp edit.now.cyclic.now) }
     requires order { IsStrictlyIncreasing cone.now }
@@ -105,7 +105,11 @@ fn turns_in_cone(alloc: Global, edit: &Edit<'_>, cone: &[Address]) -> Result<Tur
 /// The turns in the edit's cone, by stripping it to the cells that are circular afterwards. It stands apart, since most
 /// edits don't come to it.
 #[inline(never)]
-fn turns_by_stripping(alloc: Global, edit: &Edit<'_>, cone: &CellSet) -> Result<Turns, AllocError>
+fn turns_by_stripping(
+    alloc: Global,
+    edit: &GraphEdit<'_>,
+    cone: &CellSet,
+) -> Result<Turns, AllocError>
     requires cyclic { AreCyclic (room_at edit.now.rooms.now)
         (contains nat_cmp edit.now.cyclic.now) }
     requires cone { IsEditCone edit.now.rooms.now edit.now.next.now (contains nat_cmp cone.now) }
@@ -146,7 +150,11 @@ fn ceased_of(
 }
 
 /// The cells of the edit's cone that are circular after it.
-fn circular_in_cone(alloc: Global, edit: &Edit<'_>, cone: &CellSet) -> Result<CellSet, AllocError>
+fn circular_in_cone(
+    alloc: Global,
+    edit: &GraphEdit<'_>,
+    cone: &CellSet,
+) -> Result<CellSet, AllocError>
     requires { AreInOrder edit.now.next.now }
     ensures within { IfOk result (λ rest. IsWithin rest cone.now) }
     ensures found_cyclic { IfOk result

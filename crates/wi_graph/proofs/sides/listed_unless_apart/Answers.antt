@@ -10,4 +10,4 @@ returns-in_ok-cone-in-Some-clause-cone c =
 
 pub returns-in-None-clause-apart : goal.returns-in-None-clause-apart
 returns-in-None-clause-apart c =
-    reads_apart c.args.edit.now.rooms.now c.args.edit.now.next.now c.args.edit.now.cyclic.now c.index-next-0.result (c.is_for_open_cell.ensures.one (search rules)) (search rules) (c.is_for_open_cell.ensures.unmet (search rules)) (rw c.in-None.is at c.in_ok-found.ensures.apart)
+    reads_apart c.args.edit.now.rooms.now c.args.edit.now.next.now c.args.edit.now.cyclic.now c.index-edit-0.result (c.is_for_open_cell.ensures.one (search rules)) (search rules) (c.is_for_open_cell.ensures.unmet (search rules)) (rw c.in-None.is at c.in_ok-found.ensures.apart)
