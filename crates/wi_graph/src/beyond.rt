@@ -4,15 +4,12 @@ ghost use Rattle.std.specs.Prelude.{◌≡◌, ◌∷◌, ℕ, [], true, false, 
 ghost use Rattle.wi_values.specs.Address.{is_one_of};
 ghost use Rattle.wi_graph.specs.Inner.Search.{IsConeBeyond, IsListBeyond, AreEnqueued, beyond};
 
+use crate::cells::Cells;
 use crate::cone::{are_alone, enqueue, enqueue_one};
 use crate::watch::Watch;
-use smallvec::SmallVec;
 use std::alloc::{AllocError, Global};
 use wi_ranges::{RangeIndex, RisingSet};
 use wi_values::Address;
-
-/// Cells, of which one takes no memory of its own.
-pub type Cells = SmallVec<Address, 1>;
 
 /// The cells that read one of these, at any remove, with themselves, but for those that are watched and what is found
 /// by them alone: each once, in row-major order. Of the cells given those that are watched cost a look, and where the

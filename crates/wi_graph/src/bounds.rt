@@ -30,7 +30,7 @@ fn around_first(cells: &[Address]) -> Rect {
 pub(crate) fn around_cell(cell: Address) -> Rect
     ensures { is_within result cell ≡ true }
 {
-    Rect::new(cell, cell)
+    Rect::of(cell)
 }
 
 /// The least rectangle that has each cell of one, and another cell.

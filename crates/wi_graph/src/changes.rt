@@ -1,10 +1,9 @@
 //! What an edit brings, by its cells.
 
-ghost use Rattle.std.specs.Prelude.{◌≡◌, ◌↔◌, ◌==◌, ◌∷◌, ℕ, [], if◌then◌else◌, IsTrue, IfSome, IfOk, OnOk};
-ghost use Rattle.std.specs.Map.{keys_of};
+ghost use Rattle.std.specs.Prelude.{◌≡◌, ◌↔◌, ◌==◌, ◌∷◌, ℕ, [], if◌then◌else◌, IsTrue, IfOk, OnOk};
 ghost use Rattle.wi_graph.specs.Edges.{areas_in};
 ghost use Rattle.wi_graph.specs.Inner.Rooms.{items_of, room_at, room_over, AreInOrder, HasNoIdle};
-ghost use Rattle.wi_graph.specs.Inner.Changes.{cells_in, Brings};
+ghost use Rattle.wi_graph.specs.Inner.Changes.{Brings};
 
 use crate::rooms::{Coming, Rectangles, Rooms};
 use std::alloc::{AllocError, Global};
@@ -14,62 +13,6 @@ use wi_values::Address;
 
 /// What an edit brings, by its cells.
 type Sorted = BTreeMap<Address, Option<Rectangles>>;
-
-/// The cells of an edit.
-#[derive(Drop)]
-pub enum EditedCells {
-    /// The one of an edit of one cell takes no memory.
-    One(Address),
-    More(Vec<Address>),
-}
-
-impl EditedCells {
-    /// One after another.
-    pub fn as_slice(&self) -> &[Address]
-        ensures { result.now ≡ cells_in self.now }
-    {
-        match self {
-            EditedCells::One(cell) => std::slice::from_ref(cell),
-            EditedCells::More(cells) => cells.as_slice(),
-        }
-    }
-}
-
-/// The cells of an edit, of which each gets a content or none, in its order.
-#[inline(always)]
-pub fn edited_cells(alloc: Global, changes: &[NewContent]) -> Result<EditedCells, AllocError>
-    ensures { IfOk result (λ cells. cells_in cells ≡ keys_of changes.now) }
-{
-    match lone_cell(changes) {
-        Some(at) => Ok(EditedCells::One(at)),
-        None => Ok(EditedCells::More(changed_cells(alloc, changes)?)),
-    }
-}
-
-/// The cell of an edit of one cell.
-fn lone_cell(changes: &[NewContent]) -> Option<Address>
-    ensures { IfSome result (λ at. keys_of changes.now ≡ at ∷ []) }
-{
-    if changes.len() != 1 {
-        return None;
-    }
-    let change = &changes[0];
-    Some(change.0)
-}
-
-/// The cells of an edit as a list, in its order.
-pub(crate) fn changed_cells(
-    alloc: Global,
-    changes: &[NewContent],
-) -> Result<Vec<Address>, AllocError>
-    ensures { IfOk result (λ v. v.items ≡ keys_of changes.now) }
-{
-    let mut cells = Vec::new(alloc);
-    for change in changes {
-        cells.push(change.0)?;
-    }
-    Ok(cells)
-}
 
 /// What an edit brings beside what stands in the rooms; of two for one cell the later counts. A cell that goes on
 /// reading what it reads isn't named. The work grows with what the edited cells are to read, and their count times its

@@ -17,10 +17,12 @@ ghost use Rattle.wi_graph.specs.Inner.Changes.{Brings};
 ghost use Rattle.wi_graph.specs.Inner.Rooms.{room_at, AreInOrder, HasNoIdle, IsGraph, IsStaged};
 ghost use Rattle.wi_graph.specs.Inner.Turning.{AreTurns};
 
-use crate::beyond::{Cells, listed_beyond};
+use crate::beyond::listed_beyond;
 use crate::cell_set::CellSet;
+use crate::cells::Cells;
 use crate::changes::rooms_of;
 use crate::cone::{any_is_read, listed_cone};
+use crate::edit::GraphEdit;
 use crate::rooms::{Coming, Rooms, cancel_rooms, commit_rooms};
 use crate::sets::take_away;
 use crate::staging::bring_in;
@@ -202,7 +204,14 @@ fn make_ready(
     ensures err { OnErr result (IsGraph rooms.new readers.new cyclic.new) }
 {
     let next = rooms_of(alloc, rooms, changes)?;
-    let turns = turns_of(alloc, rooms, readers, cyclic, &next, changes)?;
+    let edit = GraphEdit {
+        rooms,
+        readers,
+        cyclic,
+        next: &next,
+        changes,
+    };
+    let turns = turns_of(alloc, &edit)?;
     bring(rooms, readers, cyclic, next, turns)
 }
 

@@ -12,12 +12,12 @@ ghost use Rattle.wi_graph.specs.Inner.Below.{ReachesNot, ReadsApart};
 
 use crate::below::{begin_below, go_below, is_clear};
 use crate::cell_set::CellSet;
-use crate::changes::changed_cells;
+use crate::cells::edited_cells;
 use crate::closing::meets_cyclic;
 use crate::cone::{enqueue, listed_cone};
+use crate::edit::GraphEdit;
 use crate::rooms::{Brought, Rooms};
 use std::alloc::{AllocError, Global};
-use wi_parser::NewContent;
 use wi_ranges::{RangeIndex, RisingSet};
 use wi_values::Address;
 
@@ -27,40 +27,35 @@ use wi_values::Address;
 /// of a cell.
 pub(crate) fn cone_unless_apart(
     alloc: Global,
-    rooms: &Rooms,
-    readers: &RangeIndex,
-    cyclic: &CellSet,
-    next: &[Brought],
-    changes: &[NewContent],
+    edit: &GraphEdit<'_>,
 ) -> Result<Option<Vec<Address>>, AllocError>
-    requires { IsOrdered nat_cmp rooms.now }
-    ensures cone { IfOk result (λ o.
-        IfSome o (λ cone. IsConeOf readers.now (keys_of changes.now) cone.items)) }
-    ensures apart { IfOk result (λ o. IfNone o (ReadsApart rooms.now next.now cyclic.now)) }
+    requires { IsOrdered nat_cmp edit.now.rooms.now }
+    ensures cone { IfOk result (λ o. IfSome o
+        (λ cone. IsConeOf edit.now.readers.now (keys_of edit.now.changes.now) cone.items)) }
+    ensures apart { IfOk result (λ o. IfNone o
+        (ReadsApart edit.now.rooms.now edit.now.next.now edit.now.cyclic.now)) }
 {
-    let cells = changed_cells(alloc, changes)?;
-    listed_unless_apart(alloc, rooms, readers, cyclic, next, &cells)
+    let cells = edited_cells(alloc, edit.changes)?;
+    listed_unless_apart(alloc, edit, &cells)
 }
 
-/// The cone of some cells, which are those of an edit; none where one cell gets something and isn't circular, and what
-/// it is to read, at any remove, isn't circular and isn't the cell. The work is that of `cone_unless_apart`.
+/// What `cone_unless_apart` gives, at its cost, where the edited cells are listed.
 fn listed_unless_apart(
     alloc: Global,
-    rooms: &Rooms,
-    readers: &RangeIndex,
-    cyclic: &CellSet,
-    next: &[Brought],
+    edit: &GraphEdit<'_>,
     cells: &[Address],
 ) -> Result<Option<Vec<Address>>, AllocError>
-    requires { IsOrdered nat_cmp rooms.now }
-    ensures cone { IfOk result (λ o. IfSome o (λ cone. IsConeOf readers.now cells.now cone.items)) }
-    ensures apart { IfOk result (λ o. IfNone o (ReadsApart rooms.now next.now cyclic.now)) }
+    requires { IsOrdered nat_cmp edit.now.rooms.now }
+    ensures cone { IfOk result (λ o. IfSome o
+        (λ cone. IsConeOf edit.now.readers.now cells.now cone.items)) }
+    ensures apart { IfOk result (λ o. IfNone o
+        (ReadsApart edit.now.rooms.now edit.now.next.now edit.now.cyclic.now)) }
 {
-    if !is_for_open_cell(cyclic, next) {
-        let own = listed_cone(alloc, readers, cells)?;
+    if !is_for_open_cell(edit.cyclic, edit.next) {
+        let own = listed_cone(alloc, edit.readers, cells)?;
         return Ok(Some(own));
     }
-    match both_sides(alloc, rooms, readers, cells, &next[0])? {
+    match both_sides(alloc, edit.rooms, edit.readers, cells, &edit.next[0])? {
         Some(found) => {
             let cone = found.into_list()?;
             Ok(Some(cone))

@@ -14,9 +14,9 @@ ghost use Rattle.wi_graph.specs.Inner.Turning.{AreTurns, FindsCyclic};
 
 use crate::cell_set::CellSet;
 use crate::closing::{closes_cycle, meets_cyclic, stands_apart};
+use crate::edit::GraphEdit;
 use crate::pinned::pinned_set;
 use crate::reads::reads_of;
-use crate::rooms::{Brought, Rooms};
 use crate::sets::{insert_all, listed, set_of, take_away, without};
 use crate::sides::cone_unless_apart;
 use crate::stripping::strip;
@@ -32,30 +32,23 @@ pub(crate) struct Turns {
     pub(crate) ceased: Vec<Address>,
 }
 
-/// The cells that turn, circular or no longer so, once what is next is put in. Where nothing is next there are none. Of
-/// one cell that no formula reads, only what it is to read is looked at. Else the cone is searched for only if it is
-/// needed: not where one cell gets something else that reads neither it nor a formula, and isn't circular. Where it
-/// reads formulas, none of them circular, the work grows with the shorter of two searches, among what depends on the
-/// cell and among what it is to read at any remove.
-pub(crate) fn turns_of(
-    alloc: Global,
-    rooms: &Rooms,
-    readers: &RangeIndex,
-    cyclic: &CellSet,
-    next: &[Brought],
-    changes: &[NewContent],
-) -> Result<Turns, AllocError>
-    requires graph { IsGraph rooms.now readers.now cyclic.now }
-    requires order { AreInOrder next.now }
-    requires brings { Brings rooms.now next.now changes.now }
-    ensures { IfOk result (AreTurns rooms.now next.now cyclic.now) }
+/// The cells that turn, circular or no longer so, by an edit. Where nothing is next there are none. Of one cell that no
+/// formula reads, only what it is to read is looked at. Else the cone is searched for only if it is needed: not where
+/// one cell gets something else that reads neither it nor a formula, and isn't circular. Where it reads formulas, none
+/// of them circular, the work grows with the shorter of two searches, among what depends on the cell and among what it
+/// is to read at any remove.
+pub(crate) fn turns_of(alloc: Global, edit: &GraphEdit<'_>) -> Result<Turns, AllocError>
+    requires graph { IsGraph edit.now.rooms.now edit.now.readers.now edit.now.cyclic.now }
+    requires order { AreInOrder edit.now.next.now }
+    requires brings { Brings edit.now.rooms.now edit.now.next.now edit.now.changes.now }
+    ensures { IfOk result (AreTurns edit.now.rooms.now edit.now.next.now edit.now.cyclic.now) }
 {
-    if next.is_empty() {
+    if edit.next.is_empty() {
         return Ok(no_turns(alloc));
     }
-    match lone_unread(readers, changes) {
-        Some(cell) => turns_in(alloc, rooms, cyclic, next, &[cell]),
-        None => turns_sought(alloc, rooms, readers, cyclic, next, changes),
+    match lone_unread(edit.readers, edit.changes) {
+        Some(cell) => turns_in_cone(alloc, edit, &[cell]),
+        None => turns_of_read(alloc, edit),
     }
 }
 
@@ -74,72 +67,57 @@ fn lone_unread(readers: &RangeIndex, changes: &[NewContent]) -> Option<Address>
     Some(change.0)
 }
 
-/// The cells that turn, circular or no longer so, once what is next is put in, of an edit of several cells, or of one
-/// that is read. The cone is searched for only if it is needed, as `turns_of` says.
-fn turns_sought(
-    alloc: Global,
-    rooms: &Rooms,
-    readers: &RangeIndex,
-    cyclic: &CellSet,
-    next: &[Brought],
-    changes: &[NewContent],
-) -> Result<Turns, AllocError>
-    requires graph { IsGraph rooms.now readers.now cyclic.now }
-    requires order { AreInOrder next.now }
-    requires brings { Brings rooms.now next.now changes.now }
-    ensures { IfOk result (AreTurns rooms.now next.now cyclic.now) }
+/// The turns by an edit of several cells, or of one that a formula reads: the cone is searched for.
+fn turns_of_read(alloc: Global, edit: &GraphEdit<'_>) -> Result<Turns, AllocError>
+    requires graph { IsGraph edit.now.rooms.now edit.now.readers.now edit.now.cyclic.now }
+    requires order { AreInOrder edit.now.next.now }
+    requires brings { Brings edit.now.rooms.now edit.now.next.now edit.now.changes.now }
+    ensures { IfOk result (AreTurns edit.now.rooms.now edit.now.next.now edit.now.cyclic.now) }
 {
-    if stands_apart(rooms, cyclic, next) {
+    if stands_apart(edit.rooms, edit.cyclic, edit.next) {
         return Ok(no_turns(alloc));
     }
-    match cone_unless_apart(alloc, rooms, readers, cyclic, next, changes)? {
-        Some(cone) => turns_in(alloc, rooms, cyclic, next, &cone),
+    match cone_unless_apart(alloc, edit)? {
+        Some(cone) => turns_in_cone(alloc, edit, &cone),
         None => Ok(no_turns(alloc)),
     }
 }
 
-/// The cells that turn, circular or no longer so, once what is next is put in, where the edit's cone is given in
-/// row-major order. Where what is next is for no circular cell and reads none, and no cycle is closed, the work grows
-/// with the count of the cone, and with the rows of what is next reads where the rectangle around the cone or that
-/// around the circular cells meets it, times the logarithms of their counts, and it takes no memory. Else it grows also
-/// with the cone and what its cells read, times logarithms.
+/// The turns in the edit's cone, which is given in row-major order. To find that no cycle is closed or opened takes no
+/// memory; the work grows with the count of the cone, and with the rows of each rectangle that is to be read where the
+/// rectangle around the cone or that around the circular cells meets it, times the logarithms of their counts. Else it
+/// grows also with the cone and what its cells read, times logarithms.
 #[inline(always)]
-fn turns_in(
-    alloc: Global,
-    rooms: &Rooms,
-    cyclic: &CellSet,
-    next: &[Brought],
-    cone: &[Address],
-) -> Result<Turns, AllocError>
-    requires cyclic { AreCyclic (room_at rooms.now) (contains nat_cmp cyclic.now) }
+fn turns_in_cone(alloc: Global, edit: &GraphEdit<'_>, cone: &[Address]) -> Result<Turns, AllocError>
+    requires cyclic { AreCyclic (room_at edit.now.rooms.now)
+        (contains nat_cmp edit.now.cyclic.now) }
     requires order { IsStrictlyIncreasing cone.now }
-    requires cone { IsEditCone rooms.now next.now (is_one_of cone.now) }
-    ensures { IfOk result (AreTurns rooms.now next.now cyclic.now) }
+    requires cone { IsEditCone edit.now.rooms.now edit.now.next.now (is_one_of cone.now) }
+    ensures { IfOk result (AreTurns edit.now.rooms.now edit.now.next.now edit.now.cyclic.now) }
 {
-    if !meets_cyclic(next, cyclic) && !closes_cycle(next, cone) {
+    if !meets_cyclic(edit.next, edit.cyclic) && !closes_cycle(edit.next, cone) {
         return Ok(no_turns(alloc));
     }
     let cone = set_of(alloc, cone)?;
-    turns_among(alloc, rooms, cyclic, next, &cone)
+    turns_by_stripping(alloc, edit, &cone)
 }
 
-/// The cells that turn, circular or no longer so, once what is next is put in, where a cycle may be closed or opened;
-/// the edit's cone is given as a set. It stands apart, since most edits don't come to it.
+/// The turns in the edit's cone, by stripping it to the cells that are circular afterwards. It stands apart, since most
+/// edits don't come to it.
 #[inline(never)]
-fn turns_among(
+fn turns_by_stripping(
     alloc: Global,
-    rooms: &Rooms,
-    cyclic: &CellSet,
-    next: &[Brought],
+    edit: &GraphEdit<'_>,
     cone: &CellSet,
 ) -> Result<Turns, AllocError>
-    requires cyclic { AreCyclic (room_at rooms.now) (contains nat_cmp cyclic.now) }
-    requires cone { IsEditCone rooms.now next.now (contains nat_cmp cone.now) }
-    ensures { IfOk result (AreTurns rooms.now next.now cyclic.now) }
+    requires cyclic { AreCyclic (room_at edit.now.rooms.now)
+        (contains nat_cmp edit.now.cyclic.now) }
+    requires cone { IsEditCone edit.now.rooms.now edit.now.next.now (contains nat_cmp cone.now) }
+    ensures { IfOk result (AreTurns edit.now.rooms.now edit.now.next.now edit.now.cyclic.now) }
 {
-    let rest = circular_in_cone(alloc, rooms, next, cyclic, cone)?;
-    let became = without(alloc, &rest, cyclic)?;
-    let ceased = ceased_of(alloc, cyclic, cone, &rest)?;
+    let rest = circular_in_cone(alloc, edit, cone)?;
+    let became = without(alloc, &rest, edit.cyclic)?;
+    let ceased = ceased_of(alloc, edit.cyclic, cone, &rest)?;
     Ok(Turns { became, ceased })
 }
 
@@ -171,21 +149,20 @@ fn ceased_of(
         .collect(alloc)
 }
 
-/// The cells of a cone that are circular once what is next is put in.
+/// The cells of the edit's cone that are circular after it.
 fn circular_in_cone(
     alloc: Global,
-    rooms: &Rooms,
-    next: &[Brought],
-    cyclic: &CellSet,
-    cells: &CellSet,
+    edit: &GraphEdit<'_>,
+    cone: &CellSet,
 ) -> Result<CellSet, AllocError>
-    requires { AreInOrder next.now }
-    ensures within { IfOk result (λ rest. IsWithin rest cells.now) }
-    ensures found_cyclic { IfOk result (FindsCyclic rooms.now next.now cyclic.now cells.now) }
+    requires { AreInOrder edit.now.next.now }
+    ensures within { IfOk result (λ rest. IsWithin rest cone.now) }
+    ensures found_cyclic { IfOk result
+        (FindsCyclic edit.now.rooms.now edit.now.next.now edit.now.cyclic.now cone.now) }
 {
-    let list = listed(alloc, cells.set())?;
-    let reads = reads_of(alloc, rooms, next, &list)?;
-    let pinned = pinned_set(alloc, &reads, cyclic, cells)?;
+    let list = listed(alloc, cone.set())?;
+    let reads = reads_of(alloc, edit.rooms, edit.next, &list)?;
+    let pinned = pinned_set(alloc, &reads, edit.cyclic, cone)?;
     let mut rest = set_of(alloc, &list)?;
     strip(alloc, reads, &pinned, &mut rest)?;
     Ok(rest)

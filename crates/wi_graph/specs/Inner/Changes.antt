@@ -6,16 +6,9 @@ use Rattle.std.specs.BTreeSet.{BTreeSet, contains}
 use Rattle.wi_values.specs.Address.{Area}
 use Rattle.wi_parser.specs.declared.content.Content.{Content}
 use Rattle.wi_parser.specs.Sheet.{Sheet, content_of}
-use Rattle.wi_graph.specs.declared.changes.EditedCells.{EditedCells}
-use Rattle.wi_graph.specs.declared.changes.EditedCells.TheVariants.{One, More}
 use Rattle.wi_graph.specs.Reach.{in_cone}
 use Rattle.wi_graph.specs.Edges.{areas_in}
 use Rattle.wi_graph.specs.Inner.Rooms.{Rooms, Coming, room_at, room_over, AreInOrder}
-
--- the cells of an edit, one after another
-abbrev pub cells_in : EditedCells → List ℕ
-cells_in (One cell) = cell ∷ []
-cells_in (More cells) = cells.items
 
 -- what a cell reads after the changes, that read this before them
 abbrev pub areas_then : List (ℕ × Option Content) → ℕ → Option (List Area) → Option (List Area)

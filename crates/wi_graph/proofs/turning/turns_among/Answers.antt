@@ -1,6 +1,0 @@
-use Rattle.wi_graph.proofs.TurningSteps.{cone_turns}
-use Rattle.wi_graph.proofs.turning.turns_among.Goals as goal
-
-pub returns : goal.returns
-returns c =
-    cone_turns c.args.rooms.now c.args.next.now c.args.cyclic.now c.args.cone.now c.in_ok-rest.rest _ c.requires.cyclic c.requires.cone c.in_ok-rest.ensures.found_cyclic c.in_ok-rest.ensures.within (c.in_ok-became.ensures, c.in_ok-ceased.ensures)
