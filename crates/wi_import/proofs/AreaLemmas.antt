@@ -1,14 +1,28 @@
 -- The rectangles of records, as the code goes through them.
+use Rattle.std.specs.Prelude.{cond, filter, map, nat_lt, Bool}
+use Rattle.std.specs.List.{enumerate_from}
+use Rattle.std.proofs.lemmas.Bool.{lt-ltb}
 use Rattle.wi_import.proofs.Words.{◌≡◌, ◌==◌, ℕ, suc, ◌+◌, ◌-◌, ◌<◌, ◌≤◌, min, max, List, [], ◌∷◌, ◌++◌, length, drop, get_or, Option, Some, None, false, refl, sym, ap, ◌∙◌, arith, Vec, Global, at_drop_more, length-map, append_assoc, append-nil, drop_all, div-mul-add, mod-mul-add, Area, columns, place, row_of, column_of, rect_of, area_of_record, areas_from, bytes_of, all_bytes}
 
 abbrev pub area_before : Option Area → List Area → List Area
 area_before None areas = areas
 area_before (Some area) areas = area ∷ areas
 
+up_to_last : (column more : ℕ) → column + suc more - 1 ≡ column + more
+up_to_last column more = omega arith
+
+-- the cells of a record in its row
+abbrev placed : ℕ → ℕ × List (List ℕ) → Area
+placed column r = record { first = place r.0 column; last = place r.0 (column + length r.1 - 1) }
+
 area_first : (row column : ℕ) (fields : List (List ℕ)) (more : List (List (List ℕ)))
     → areas_from row column (fields ∷ more) ≡ area_before (area_of_record row column fields) (areas_from (row + 1) column more)
 area_first row column [] more = refl
-area_first row column (field ∷ others) more = refl
+area_first row column (field ∷ others) more =
+    let behind = filter (λ r. nat_lt 0 (length r.1)) (enumerate_from (row + 1) more) in
+    let some : 0 < length (field ∷ others) = omega arith in
+    ap (λ (t : Bool). map (placed column) (cond t ((row, field ∷ others) ∷ behind) behind)) (lt-ltb 0 (length (field ∷ others)) some)
+    ∙ ap (λ k. record { first = place row column; last = place row k } ∷ areas_from (row + 1) column more) (up_to_last column (length others))
 
 -- the rectangles of what is left of the records
 abbrev pub areas_left : ℕ → ℕ → ℕ → List (Vec (Vec ℕ Global) Global) → List Area
@@ -53,9 +67,6 @@ row_part row first more h =
 
 abbrev area_to : ℕ → ℕ → ℕ → Area
 area_to row column more = record { first = place row column; last = place row (column + more) }
-
-up_to_last : (column more : ℕ) → column + suc more - 1 ≡ column + more
-up_to_last column more = omega arith
 
 last_within : (column more : ℕ) → column + suc more ≤ columns → column + more < columns
 last_within column more h = omega (arith, h)

@@ -1,5 +1,5 @@
 -- What imports of fields come to: what the function finds, and nothing else.
-use Rattle.wi_import.proofs.Words.{◌≡◌, ◌↔◌, ℕ, nat_le, Bool, true, false, not, ◌||◌, List, [], ◌∷◌, map, get_or, Option, Some, None, is_some, option_map, Result, Ok, Err, refl, sym, ap, ◌∙◌, subst, arith, IsUtf8, All, AllZip, list_any, is_utf8, nat_tests, list_any_none, Any-from_list_any, list_any-from_Any, IsUtf8-from_is_utf8, is_utf8-from_IsUtf8, or_parts, not-false, Number as Numbers, read, rows, columns, IsImported, a_number, a_truth_value, a_text, imported, field_value, number_or, imported_exactly, each_fails, Any-weaker, Value, Content, Constant, ImportFault, Field, IsInside, IsFieldContent, no_content, a_constant, IsChange, AreChanges, IsFault, bad_field, too_long, out_of_sheet, IsImport, is_bad, is_too_long, is_outside, content_for, content_of, change_of, first_fault, fault_among, unless_fault, import_of, field_cell, IsText}
+use Rattle.wi_import.proofs.Words.{◌≡◌, ◌↔◌, ℕ, nat_le, Bool, true, false, not, ◌||◌, List, [], ◌∷◌, map, get_or, Option, Some, None, is_some, option_map, Result, Ok, Err, refl, sym, ap, ◌∙◌, subst, arith, IsUtf8, All, AllZip, list_any, is_utf8, nat_tests, list_any_none, Any-from_list_any, list_any-from_Any, IsUtf8-from_is_utf8, is_utf8-from_IsUtf8, or_parts, not-false, Number as Numbers, read, rows, columns, IsImported, a_number, a_truth_value, a_text, imported, field_value, number_or, imported_exactly, each_fails, Any-weaker, Value, Content, Constant, ImportFault, Field, IsInside, IsFieldContent, IsChange, AreChanges, IsFault, bad_field, too_long, out_of_sheet, IsImport, is_bad, is_too_long, is_outside, content_for, content_of, change_of, first_fault, fault_among, unless_fault, import_of, field_cell, IsText}
 use Rattle.wi_values.specs.Imported.{too_long as too_long_text}
 
 abbrev Outcome : Type 0
@@ -89,21 +89,19 @@ imported_content text o (a_text bs w short) = refl
 imported_content text o (too_long_text bs w long) = refl
 
 content_is : (bytes : List ℕ) (o : Option Content) → IsFieldContent bytes o → content_of bytes ≡ o
-content_is bytes o no_content = refl
-content_is bytes o (a_constant [] v some h) = absurd (some refl)
-content_is bytes o (a_constant (b ∷ bs) v some h) = ap content_for ((imported_exactly (b ∷ bs) (Some v)).0 h) ∙ imported_content (b ∷ bs) (Some v) h
+content_is [] o h = sym h
+content_is (b ∷ bs) o h = ap content_for ((imported_exactly (b ∷ bs) (Some h.0)).0 h.1) ∙ imported_content (b ∷ bs) (Some h.0) h.1 ∙ sym h.2
 
 content_short : (bytes : List ℕ) (o : Option Content) → IsFieldContent bytes o → is_too_long bytes ≡ false
-content_short bytes o no_content = refl
-content_short bytes o (a_constant [] v some h) = refl
-content_short bytes o (a_constant (b ∷ bs) v some h) = ap (λ o. not (is_some o)) ((imported_exactly (b ∷ bs) (Some v)).0 h)
+content_short [] o h = refl
+content_short (b ∷ bs) o h = ap (λ o. not (is_some o)) ((imported_exactly (b ∷ bs) (Some h.0)).0 h.1)
 
 is_content : (bytes : List ℕ) (o : Option Value) → field_value bytes ≡ o → not (is_some o) ≡ false → IsFieldContent bytes (content_of bytes)
 is_content bytes None e short = cc short
-is_content [] (Some v) e short = no_content
+is_content [] (Some v) e short = refl
 is_content (b ∷ bs) (Some v) e short =
     let h = (imported_exactly (b ∷ bs) (Some v)).1 e in
-    subst (IsFieldContent (b ∷ bs)) (sym (ap content_for e ∙ imported_content (b ∷ bs) (Some v) h)) (a_constant (b ∷ bs) v (λ n. cc n) h)
+    (v, h, ap content_for e ∙ imported_content (b ∷ bs) (Some v) h)
 
 pair_is : (a b : ℕ) (o p : Option Content) (rest others : List (ℕ × Option Content)) → a ≡ b → o ≡ p → rest ≡ others → (a, o) ∷ rest ≡ (b, p) ∷ others
 pair_is a b o p rest others e f g = ap (λ x. (x, o) ∷ rest) e ∙ ap (λ y. (b, y) ∷ rest) f ∙ ap (λ z. (b, p) ∷ z) g

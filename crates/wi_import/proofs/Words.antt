@@ -17,10 +17,10 @@ pub use Rattle.std.specs.Str.{bytes_eq, is_utf8}
 pub use Rattle.std.specs.declared.alloc.Global.{Global}
 pub use Rattle.wi_fraction.specs.Inner.Reading.{read}
 pub use Rattle.wi_fraction.specs.Number.{Number}
-pub use Rattle.wi_import.specs.Fields.{Field, IsInside, area_of_record, areas_from, fields_at, fields_from, fields_of}
-pub use Rattle.wi_import.specs.Imports.{AreChanges, IsChange, IsFault, IsFieldContent, IsImport, a_constant, bad_field, no_content, out_of_sheet, too_long}
+pub use Rattle.wi_import.specs.Fields.{Field, IsInside, areas_from, fields_at, fields_from, fields_of}
+pub use Rattle.wi_import.specs.Imports.{AreChanges, IsChange, IsFault, IsFieldContent, IsImport, bad_field, out_of_sheet, too_long}
 pub use Rattle.wi_import.specs.Inner.Reading.{IsText, change_of, content_for, content_of, fault_among, field_cell, first_fault, import_of, is_bad, is_outside, is_too_long, unless_fault}
-pub use Rattle.wi_import.specs.Inner.Records.{all_bytes, bytes_of, is_faulty}
+pub use Rattle.wi_import.specs.Inner.Records.{all_bytes, area_of_record, bytes_of, is_faulty}
 pub use Rattle.wi_import.specs.declared.fault.ImportFault.{ImportFault}
 pub use Rattle.wi_import.specs.declared.fault.ImportFault.TheVariants.{Memory}
 pub use Rattle.wi_parser.specs.Sheet.{constant}

@@ -1,5 +1,5 @@
 -- What an import of fields puts into their cells, or why it is refused.
-use Rattle.std.specs.Prelude.{◌≡◌, ◌≢◌, ℕ, List, [], Option, Some, None, Result, Ok, Err, All, IsUtf8}
+use Rattle.std.specs.Prelude.{◌≡◌, ℕ, List, [], Option, Some, None, Result, Ok, Err, All, IsUtf8}
 use Rattle.std.specs.List.{Any, AllZip}
 use Rattle.wi_values.specs.Address.{place}
 use Rattle.wi_values.specs.declared.value.Value.{Value}
@@ -12,9 +12,9 @@ use Rattle.wi_import.specs.Fields.{Field, IsInside}
 use Rattle.wi_fraction.specs.Text.{Bytes}
 
 -- an empty field empties its cell; another puts a constant there by the import rule
-pub data IsFieldContent : Bytes → Option Content → Type 0 where
-  no_content : IsFieldContent [] None
-  a_constant : (bytes : Bytes) (v : Value) → bytes ≢ [] → IsImported bytes (Some v) → IsFieldContent bytes (Some (Constant v))
+abbrev pub IsFieldContent : Bytes → Option Content → Type 0
+IsFieldContent [] o = o ≡ None
+IsFieldContent bytes o = (v : Value) × IsImported bytes (Some v) × (o ≡ Some (Constant v))
 
 abbrev pub IsChange : Field → ℕ × Option Content → Type 0
 IsChange f change = (change.0 ≡ place f.row f.column) × IsFieldContent f.bytes change.1

@@ -3,9 +3,9 @@
 ghost use Rattle.std.specs.Prelude.{◌≡◌, false, IfOk};
 ghost use Rattle.std.specs.List.{list_any};
 ghost use Rattle.wi_values.specs.Address.{row_of, column_of};
-ghost use Rattle.wi_import.specs.Fields.{fields_of, fields_from, area_of_record, areas_from};
+ghost use Rattle.wi_import.specs.Fields.{fields_of, fields_from, areas_from};
 ghost use Rattle.wi_import.specs.Inner.Reading.{is_outside};
-ghost use Rattle.wi_import.specs.Inner.Records.{bytes_of, all_bytes};
+ghost use Rattle.wi_import.specs.Inner.Records.{bytes_of, all_bytes, area_of_record};
 
 use std::alloc::{AllocError, Global};
 use wi_values::{Address, Rect};
