@@ -19,6 +19,7 @@ ghost use Rattle.wi_engine.specs.Inner.Plans.{IsWholePlan, MayBeNext, RestsOnSet
 use crate::content_ref::{formula_at, formula_in};
 use crate::memo::Memo;
 use crate::occupied::{is_in_one, next_within};
+use crate::placing::placed_plan;
 use crate::plan::{Plan, Planned};
 use std::alloc::{AllocError, Global};
 use std::collections::{BTreeMap, BTreeSet};
@@ -103,10 +104,12 @@ fn checked(
     if !is_plan(alloc, store, &inputs, root, &draft.cells, &draft.readers)? {
         return Ok(None);
     }
+    let placed = placed_plan(alloc, store, &inputs, root, &draft.cells)?;
     Ok(Some(Plan {
         root,
         inputs,
         cells: draft.cells,
+        placed,
     }))
 }
 

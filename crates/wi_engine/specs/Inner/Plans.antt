@@ -58,6 +58,7 @@ pub record MayBeFollowed (s : Sheet) (m : MemoState) (w : List Replacement) (p :
   pub read : MayBeRead s m p.root
   pub plan : IsWholePlan s p.inputs.items p.root p.cells.items
   pub inputs : map (λ r. r.at) w ≡ p.inputs.items
+  pub placed : IfSome p.placed (MayFollow s p.inputs.items p.root p.cells.items)
 
 -- ---- what is so while a plan is followed
 
