@@ -1,5 +1,6 @@
 -- Formulas of a plan over places: what they mean where the values before them stand in a list.
 use Rattle.std.specs.Prelude.{◌≡◌, ◌==◌, ◌++◌, ◌∷◌, ℕ, true, false, Bool, List, [], map, Option, Some, None, IfSome, IfNone, is_none, slice_get, length, Vec, Global, ◌+◌, ◌≤◌}
+use Rattle.std.specs.Vec.{vec_capacity}
 use Rattle.std.specs.BTreeMap.{lookup}
 use Rattle.std.specs.Ordering.{nat_cmp}
 use Rattle.wi_values.specs.Address.{is_one_of}
@@ -19,7 +20,6 @@ use Rattle.wi_engine.specs.declared.placing.Places.{Places}
 use Rattle.wi_engine.specs.declared.placing.PlacedCell.{PlacedCell}
 use Rattle.wi_engine.specs.declared.placing.PlacedPlan.{PlacedPlan}
 use Rattle.wi_engine.specs.declared.plan.Planned.{Planned}
-use Rattle.wi_engine.specs.Inner.Plans.{planned_cells}
 
 -- the places of just these cells, in their order
 pub record AreNumbered (cells : List ℕ) (ps : Places) : Type 0 where
@@ -63,10 +63,10 @@ pub record ArePlacedFor (s : Sheet) (ps : Places) (q : Planned) (c : PlacedCell)
 -- A plan's cells and its root are placed, each over the inputs and the cells before it.
 pub record MayFollow (s : Sheet) (inputs : List ℕ) (root : ℕ) (ps : List Planned) (p : PlacedPlan) : Type 0 where
   pub same : map (λ c. c.planned) p.cells.items ≡ ps
-  pub cells : (front back : List PlacedCell) (c : PlacedCell) → p.cells.items ≡ front ++ c ∷ back → (places : Places) → AreNumbered (inputs ++ planned_cells (map (λ x. x.planned) front)) places → ArePlacedFor s places c.planned c
-  pub root : (places : Places) → AreNumbered (inputs ++ planned_cells ps) places → IsPlacedFormula s places root p.root
+  pub cells : (front back : List PlacedCell) (c : PlacedCell) → p.cells.items ≡ front ++ c ∷ back → (places : Places) → AreNumbered (inputs ++ map (λ x. x.planned.at) front) places → ArePlacedFor s places c.planned c
+  pub root : (places : Places) → AreNumbered (inputs ++ map (λ x. x.at) ps) places → IsPlacedFormula s places root p.root
 
 -- The values that are put into the inputs, in their order, and room for those of the cells.
 pub record AreInputValues (w : List Replacement) (inputs : List ℕ) (ps : List Planned) (vs : Vec Value Global) : Type 0 where
-  pub right : map (cell_value (put_all [] w)) inputs ≡ vs.items
+  pub right : (s : Sheet) → map (cell_value (put_all s w)) inputs ≡ vs.items
   pub room : length inputs + length ps ≤ vec_capacity vs
