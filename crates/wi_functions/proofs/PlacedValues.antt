@@ -1,6 +1,7 @@
 -- What each kind of placed expression means.
 use Rattle.wi_functions.proofs.Words.{◌≡◌, ℕ, zero, suc, ◌<◌, ◌≤◌, ◌+◌, List, [], ◌∷◌, ◌++◌, length, slice_index_or, drop, drop-cons, drop_all, append_assoc, append-nil, refl, sym, ap, ◌∙◌, subst, arith, Value, Empty, value_or, applied_to_arguments, applied_to_values, Lazy}
-use Rattle.std.specs.Prelude.{Vec, Global}
+use Rattle.std.specs.Prelude.{Vec}
+use Rattle.std.specs.Global.{Global}
 use Rattle.wi_value_functions.specs.Applied.{arguments_of}
 use Rattle.wi_value_functions.specs.declared.function.LazyFunction.{LazyFunction}
 use Rattle.wi_value_functions.specs.declared.function.ValueFunction.{ValueFunction}
@@ -65,4 +66,4 @@ more_placed es i e vs more v xs l h m k inv =
     ∙ inv
 
 pub all_placed_values : (es : List Placed) (i : ℕ) (vs xs : List Value) → length es ≤ i → vs ++ placed_values (drop i es) xs ≡ placed_values es xs → vs ≡ placed_values es xs
-all_placed_values es i vs xs l inv = sym (append-nil vs) ∙ ap (λ (ys : List Placed). vs ++ placed_values ys xs) (sym (drop_all es i l)) ∙ inv
+all_placed_values es i vs xs l inv = sym (append-nil vs) ∙ ap (λ (ys : List Placed). vs ++ placed_values ys xs) (sym (drop_all i es l)) ∙ inv

@@ -1,5 +1,6 @@
 -- Formulas of a plan over places: what they mean where the values before them stand in a list.
-use Rattle.std.specs.Prelude.{◌≡◌, ◌==◌, ◌++◌, ◌∷◌, ℕ, true, false, Bool, List, [], map, Option, Some, None, IfSome, IfNone, is_none, slice_get, length, Vec, Global, ◌+◌, ◌≤◌}
+use Rattle.std.specs.Prelude.{◌≡◌, ◌==◌, ◌++◌, ◌∷◌, ℕ, true, false, Bool, List, [], map, Option, Some, None, IfSome, IfNone, is_none, slice_get, length, Vec, ◌+◌, ◌≤◌}
+use Rattle.std.specs.Global.{Global}
 use Rattle.std.specs.Vec.{vec_capacity}
 use Rattle.std.specs.BTreeMap.{lookup}
 use Rattle.std.specs.Ordering.{nat_cmp}
