@@ -1,5 +1,6 @@
 pub mod Asking
 pub mod Choosing
+pub mod LazyAlone
 pub mod Outcomes
 pub mod Parameters
 pub mod PlacedValues

@@ -1,18 +1,41 @@
 -- What each kind of placed expression means.
 use Rattle.wi_functions.proofs.Words.{◌≡◌, ℕ, zero, suc, ◌<◌, ◌≤◌, ◌+◌, List, [], ◌∷◌, ◌++◌, length, slice_index_or, drop, drop-cons, drop_all, append_assoc, append-nil, refl, sym, ap, ◌∙◌, subst, arith, Value, Empty, value_or, applied_to_arguments, applied_to_values, Lazy}
+use Rattle.std.proofs.Common.{Box}
 use Rattle.std.specs.Prelude.{Vec}
 use Rattle.std.specs.Global.{Global}
 use Rattle.wi_value_functions.specs.Applied.{arguments_of}
 use Rattle.wi_value_functions.specs.declared.function.LazyFunction.{LazyFunction}
 use Rattle.wi_value_functions.specs.declared.function.ValueFunction.{ValueFunction}
+use Rattle.wi_parser.specs.declared.expr.Operator.{Operator}
+use Rattle.wi_parser.specs.declared.expr.Sign.{Sign}
+use Rattle.wi_functions.specs.Inner.Named.{hundredth}
+use Rattle.wi_functions.specs.Operators.{operate, with_sign}
 use Rattle.wi_functions.specs.Placed.{layer_value, placed_value, placed_values, value_at_place}
 use Rattle.wi_functions.specs.declared.placed.Placed.{Placed, fold-roll-Placed}
 use Rattle.wi_functions.specs.declared.placed.Placed.TheOpen.{Placed-F}
 use Rattle.wi_functions.specs.declared.placed.Placed.TheVariants as code
 
--- the parts, each as a call sees it
+-- ---- the value of each kind
+
+pub constant_value : (v : Value) (vs : List Value) → placed_value (code.Constant v) vs ≡ v
+constant_value v vs = ap (λ (q : Placed). placed_value q vs) (sym (code.rolls-Constant v)) ∙ ap (λ (g : List Value → Value). g vs) (fold-roll-Placed (List Value → Value) layer_value (Placed-F.Constant v))
+
+pub place_value : (i : ℕ) (vs : List Value) → placed_value (code.Place i) vs ≡ value_at_place vs i
+place_value i vs = ap (λ (q : Placed). placed_value q vs) (sym (code.rolls-Place i)) ∙ ap (λ (g : List Value → Value). g vs) (fold-roll-Placed (List Value → Value) layer_value (Placed-F.Place i))
+
+pub signed_value : (s : Sign) (t : Box Placed Global) (vs : List Value) → placed_value (code.Signed s t) vs ≡ with_sign s (placed_value t.value vs)
+signed_value s t vs = ap (λ (q : Placed). placed_value q vs) (sym (code.rolls-Signed s t)) ∙ ap (λ (g : List Value → Value). g vs) (fold-roll-Placed (List Value → Value) layer_value (Placed-F.Signed s t))
+
+pub percent_value : (t : Box Placed Global) (vs : List Value) → placed_value (code.Percent t) vs ≡ hundredth (placed_value t.value vs)
+percent_value t vs = ap (λ (q : Placed). placed_value q vs) (sym (code.rolls-Percent t)) ∙ ap (λ (g : List Value → Value). g vs) (fold-roll-Placed (List Value → Value) layer_value (Placed-F.Percent t))
+
+pub binary_value : (op : Operator) (t : Box (Placed × Placed) Global) (vs : List Value) → placed_value (code.Binary op t) vs ≡ operate op (placed_value t.value.0 vs) (placed_value t.value.1 vs)
+binary_value op t vs = ap (λ (q : Placed). placed_value q vs) (sym (code.rolls-Binary op t)) ∙ ap (λ (g : List Value → Value). g vs) (fold-roll-Placed (List Value → Value) layer_value (Placed-F.Binary op t))
+
+-- ---- the parts, each as a call sees it
+
 pub place_seen : (p : Placed) (i : ℕ) (vs : List Value) → p ≡ code.Place i → placed_value p vs ≡ value_at_place vs i
-place_seen p i vs is = ap (λ (q : Placed). placed_value q vs) (is ∙ sym (code.rolls-Place i)) ∙ ap (λ (g : List Value → Value). g vs) (fold-roll-Placed (List Value → Value) layer_value (Placed-F.Place i))
+place_seen p i vs is = ap (λ (q : Placed). placed_value q vs) is ∙ place_value i vs
 
 pub lazy_seen : (p : Placed) (f : LazyFunction) (t : Vec Placed Global) (es : List Placed) (vs : List Value) → p ≡ code.Lazy f t → es ≡ t.items → placed_value p vs ≡ applied_to_arguments (Lazy f) (arguments_of (placed_values es vs))
 lazy_seen p f t es vs is same =
