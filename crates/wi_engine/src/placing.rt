@@ -1,9 +1,9 @@
 //! Plans whose formulas are placed: each reference is a place in the list of the values so far, or a constant.
 
-ghost use Rattle.std.specs.Prelude.{IfOk, IfSome, OnOk};
+ghost use Rattle.std.specs.Prelude.{ℕ, List, IfOk, IfSome, OnOk};
 ghost use Rattle.wi_parser.specs.View.{tree_of, all_of};
 ghost use Rattle.wi_parser.specs.Tree.{binary, call, cell, percent, signed};
-ghost use Rattle.wi_engine.specs.Inner.Placing.{ArePlacedAs, ArePlacedFor, IsNumberedMore, IsPlacedAs, IsPlacedFormula, MayFollow, plain_reference};
+ghost use Rattle.wi_engine.specs.Inner.Placing.{AreNumbered, ArePlacedAs, ArePlacedFor, IsNumberedMore, IsPlacedAs, IsPlacedFormula, IsPlacedPlan, plain_reference};
 
 use crate::content_ref::{ContentRef, formula_at, stored};
 use crate::plan::{Plan, Planned};
@@ -38,12 +38,15 @@ struct Places {
 }
 
 impl Places {
-    /// Takes the next place for a cell.
+    /// Takes the next place for a cell. No memory has room for more places than can be counted.
     fn add(&mut self, at: Address) -> Result<(), AllocError>
         ensures { OnOk result (IsNumberedMore self.old self.new at) }
     {
+        let Some(count) = self.count.checked_add(1) else {
+            return Err(AllocError);
+        };
         self.by_cell.insert(at, self.count)?;
-        self.count = self.count.saturating_add(1);
+        self.count = count;
         Ok(())
     }
 }
@@ -59,7 +62,7 @@ pub(crate) fn placed_plan(
     cells: &[Planned],
 ) -> Result<Option<PlacedPlan>, AllocError>
     ensures { IfOk result (λ o. IfSome o (λ p.
-        MayFollow store.now.sheet inputs.now root cells.now p)) }
+        IsPlacedPlan store.now.sheet inputs.now root cells.now p)) }
 {
     let mut places = Places {
         by_cell: BTreeMap::new(alloc),
@@ -92,8 +95,8 @@ fn placed_one(
     places: &Places,
     planned: Planned,
 ) -> Result<Option<PlacedCell>, AllocError>
-    ensures { IfOk result (λ o. IfSome o
-        (ArePlacedFor store.now.sheet places.now planned)) }
+    ensures { IfOk result (λ o. IfSome o (λ c. (before : List ℕ)
+        → AreNumbered before places.now → ArePlacedFor store.now.sheet before planned c)) }
 {
     if planned.is_given {
         return Ok(Some(PlacedCell {
@@ -117,7 +120,8 @@ fn placed_formula(
     places: &Places,
     at: Address,
 ) -> Result<Option<Placed>, AllocError>
-    ensures { IfOk result (λ o. IfSome o (IsPlacedFormula store.now.sheet places.now at)) }
+    ensures { IfOk result (λ o. IfSome o (λ p. (before : List ℕ)
+        → AreNumbered before places.now → IsPlacedFormula store.now.sheet before at p)) }
 {
     match formula_at(store, at) {
         Some(formula) => placed(alloc, store, places, formula.tree()),

@@ -1,8 +1,8 @@
 //! The value of a cell where some are replaced, by the formulas between them one after another.
 
-ghost use Rattle.std.specs.Prelude.{◌≡◌, ◌≤◌, true, false, None, Ok, IfOk, IfSome, OnErr, is_none, is_ok};
+ghost use Rattle.std.specs.Prelude.{◌≡◌, ◌≤◌, true, false, map, None, Ok, IfOk, IfSome, OnErr, is_none, is_ok};
 ghost use Rattle.std.specs.Bool.{OnTrue};
-ghost use Rattle.wi_parser.specs.Sheet.{content_of, has_formula, put_all};
+ghost use Rattle.wi_parser.specs.Sheet.{Sheet, content_of, has_formula, put_all};
 ghost use Rattle.wi_functions.specs.Meaning as formulas;
 ghost use Rattle.wi_functions.specs.Placed.{placed_value};
 ghost use Rattle.wi_graph.specs.Circular.{circular};
@@ -11,7 +11,7 @@ ghost use Rattle.wi_sheet.specs.Demand.{reaching};
 ghost use Rattle.wi_sheet.specs.Inner.Spending.{HasCase};
 ghost use Rattle.wi_engine.specs.Inner.Frames.{MayBeRead};
 ghost use Rattle.wi_engine.specs.Inner.MemoState.{IsMemoOf};
-ghost use Rattle.wi_engine.specs.Inner.Placing.{AreInputValues, MayFollow};
+ghost use Rattle.wi_engine.specs.Inner.Placing.{IsPlacedPlan};
 ghost use Rattle.wi_engine.specs.Inner.Plans.{AreGiven, CountsCell, CountsOne, Follows, IsReady, IsUnkept, MayBeFollowed, MayBeValued};
 ghost use Rattle.wi_engine.specs.Inner.Saving.{NeedsNoEvaluation};
 ghost use Rattle.wi_engine.specs.Inner.Spends.{SpendsAtMost};
@@ -25,7 +25,7 @@ use crate::memo::Memo;
 use crate::placing::{PlacedCell, PlacedPlan};
 use crate::question::Question;
 use std::alloc::{AllocError, Global};
-use wi_functions::{Meter, Outcome, evaluate, evaluate_placed};
+use wi_functions::{Meter, Outcome, Placed, evaluate, evaluate_placed};
 use wi_store::Store;
 use wi_values::{Address, Value};
 use wi_worlds::World;
@@ -122,7 +122,7 @@ impl<M: Memo + Drop> Question<M> {
         placed: &PlacedPlan,
     ) -> Result<Option<Value>, AllocError>
         requires plan { MayBeFollowed store.now.sheet (M.state self.old.memo) world.now plan.now }
-        requires placed { MayFollow store.now.sheet plan.now.inputs.items plan.now.root
+        requires placed { IsPlacedPlan store.now.sheet plan.now.inputs.items plan.now.root
             plan.now.cells.items placed.now }
         requires formula { has_formula (content_of
             (put_all store.now.sheet world.now) plan.now.root)
@@ -137,11 +137,12 @@ impl<M: Memo + Drop> Question<M> {
         let Some(mut found) = input_values(alloc, world, plan)? else {
             return Ok(None);
         };
+        found.reserve(placed.cells.len())?;
         for cell in &placed.cells {
             let value = self.cell_over(store, world, cell, &found)?;
             found.push_reserved(value);
         }
-        let value = evaluate_placed(alloc, &placed.root, &found, &mut self.meter)?;
+        let value = placed_value(alloc, &placed.root, &found, &mut self.meter)?;
         Ok(Some(value))
     }
 
@@ -171,7 +172,7 @@ impl<M: Memo + Drop> Question<M> {
     {
         let alloc = self.pool.allocator();
         match &cell.formula {
-            Some(formula) => evaluate_placed(alloc, formula, found, &mut self.meter),
+            Some(formula) => placed_value(alloc, formula, found, &mut self.meter),
             None => match value_now(alloc, store, world, cell.planned.at, &mut self.memo)? {
                 Step::Ready(value) => Ok(value),
                 Step::First(_) => unreachable!(),
@@ -287,10 +288,11 @@ impl<M: Memo + Drop> Question<M> {
     }
 }
 
-/// The values that are put into a plan's inputs, with room for those of its cells. None where one isn't replaced.
+/// The values that are put into a plan's inputs. Room is taken for those of its cells too. None where one isn't
+/// replaced.
 fn input_values(alloc: Global, world: &World, plan: &Plan) -> Result<Option<Vec<Value>>, AllocError>
-    ensures { IfOk result (λ o. IfSome o (λ vs.
-        AreInputValues world.now plan.now.inputs.items plan.now.cells.items vs)) }
+    ensures { IfOk result (λ o. IfSome o (λ vs. (s : Sheet)
+        → map (values.cell_value (put_all s world.now)) plan.now.inputs.items ≡ vs.items)) }
 {
     let mut values = Vec::with_capacity(alloc, plan.inputs.len().saturating_add(plan.cells.len()))?;
     for input in &plan.inputs {
@@ -300,6 +302,25 @@ fn input_values(alloc: Global, world: &World, plan: &Plan) -> Result<Option<Vec<
         values.push(value.copy(alloc)?)?;
     }
     Ok(Some(values))
+}
+
+/// The value of a placed formula over values. It is counted; where memory runs out nothing is.
+#[inline(always)]
+fn placed_value(
+    alloc: Global,
+    formula: &Placed,
+    found: &[Value],
+    meter: &mut Meter,
+) -> Result<Value, AllocError>
+    ensures value { IfOk result
+        (λ v. v ≡ formulas.zero_for_empty (placed_value formula.now found.now)) }
+    ensures counts { IfOk result (λ _. CountsOne meter.old meter.new) }
+    ensures err { OnErr result (meter.new ≡ meter.old) }
+{
+    // Each count is at most the greatest number, so one more is no less.
+    let _ = meter.evaluations();
+    let _ = meter.restarts();
+    evaluate_placed(alloc, formula, found, meter)
 }
 
 /// The value of a formula that rests on what was found. It is counted; where memory runs out nothing is.
