@@ -1,6 +1,6 @@
 -- A function that chooses a parameter gives what it gives for the arguments' values, whether they are those of references
 -- or not; and what a call of placed formulas gives.
-use Rattle.wi_functions.proofs.Words.{◌≡◌, ℕ, zero, suc, ℤ, Bool, true, false, cond, List, [], ◌∷◌, length, map, None, refl, sym, ap, ◌∙◌, pos, int_lt, unsigned_abs, slice_get, ok_or, BadValue, Value, Empty, Argument, value_at, value_or, to_whole, chosen, ◌>>=◌, applied_to_arguments, applied_to_values, call_value, Function, Lazy, values_alone, values_of}
+use Rattle.wi_functions.proofs.Words.{◌≡◌, ℕ, zero, suc, ℤ, Bool, true, false, cond, List, [], ◌∷◌, length, map, None, refl, sym, ap, ◌∙◌, pos, int_lt, unsigned_abs, slice_get, ok_or, BadValue, Value, Empty, Argument, value_or, to_whole, chosen, ◌>>=◌, applied_to_arguments, applied_to_values, call_value, Function, Lazy, values_alone, values_of}
 use Rattle.std.proofs.lemmas.List.{length-map}
 use Rattle.wi_values.specs.declared.value.Value.TheVariants.{Logical}
 use Rattle.wi_standard_functions.specs.Convert.{to_logical}

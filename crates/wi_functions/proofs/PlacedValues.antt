@@ -1,5 +1,5 @@
 -- What each kind of placed expression means.
-use Rattle.wi_functions.proofs.Words.{◌≡◌, ℕ, zero, suc, ◌<◌, ◌≤◌, ◌+◌, List, [], ◌∷◌, ◌++◌, length, slice_index_or, drop, drop-cons, drop_all, append_assoc, append-nil, refl, sym, ap, ◌∙◌, subst, arith, Value, Empty, value_or, applied_to_arguments, applied_to_values, Lazy}
+use Rattle.wi_functions.proofs.Words.{◌≡◌, ℕ, zero, suc, ◌<◌, ◌≤◌, ◌+◌, List, [], ◌∷◌, ◌++◌, length, slice_index_or, drop, drop-cons, drop_all, append_assoc, append-nil, refl, sym, ap, ◌∙◌, arith, Value, Empty, value_or, applied_to_arguments, applied_to_values, Lazy}
 use Rattle.std.proofs.Common.{Box}
 use Rattle.std.specs.Prelude.{Vec}
 use Rattle.std.specs.Global.{Global}

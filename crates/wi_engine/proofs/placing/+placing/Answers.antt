@@ -26,6 +26,11 @@ placed-returns-then-eq t c =
     if_placed (IsPlacedAs s ps (cell (plain_reference corners.one.at))) (IsPlacedAs s ps (tree_of c.args.expr.now)) c.placed_cell-then-eq.result
     (λ p h. subst (λ (u : Tree). IsPlacedAs s ps u p) (sym is) (corner_as s ps corners p one h)) c.placed_cell-then-eq.ensures
 
+-- ---- two operands
+
+pub binary-returns : goal.binary-returns
+binary-returns t c = search rules
+
 -- ---- a call
 
 pub called-returns-in-Some : goal.called-returns-in-Some

@@ -1,4 +1,4 @@
-use Rattle.wi_functions.proofs.Words.{◌≡◌, Value, List, IfOk, sym, ap, ◌∙◌, subst, arith, rules, applied_to_values}
+use Rattle.wi_functions.proofs.Words.{◌≡◌, Value, List, IfOk, sym, ◌∙◌, subst, arith, rules, applied_to_values}
 use Rattle.wi_functions.proofs.PlacedValues.{lazy_seen, values_seen, placed_there, placed_missing, more_placed, all_placed_values}
 use Rattle.wi_functions.proofs.placed.+placed.Goals as goal
 
@@ -26,3 +26,6 @@ pub values_placed-returns : goal.values_placed-returns
 values_placed-returns t c =
     let all = all_placed_values c.args.parameters.now c.loop-parameter.parameter-index c.loop-parameter.taken.items c.args.values.now (omega (arith, c.loop-parameter-test.false)) c.loop-parameter.invariant in
     subst (λ (xs : List Value). IfOk c.value_of_values.result (λ v. v ≡ applied_to_values c.args.function xs)) (c.deref.ensures.value ∙ all) c.value_of_values.ensures
+
+pub binary_placed-returns : goal.binary_placed-returns
+binary_placed-returns t c = search rules
