@@ -1,9 +1,9 @@
-use Rattle.wi_engine.proofs.Words.{◌≡◌, ◌==◌, ◌∙◌, true, rules, ap, arith, subst, sym, IfSome_then, Tree}
+use Rattle.wi_engine.proofs.Words.{◌≡◌, ◌==◌, ◌∙◌, true, rules, ap, arith, subst, sym, IfSome, IfSome_then, Tree}
 use Rattle.wi_parser.proofs.ExprTrees.{cell_tree, rectangle_tree}
 use Rattle.wi_parser.specs.Tree.{cell, rectangle}
 use Rattle.wi_parser.specs.View.{tree_of, all_of}
 use Rattle.wi_engine.specs.Inner.Placing.{IsPlacedAs, plain_reference}
-use Rattle.wi_engine.proofs.placing.PlacedTrees.{all_as, call_as, corner_as, if_placed, one_more_as}
+use Rattle.wi_engine.proofs.placing.PlacedTrees.{all_as, binary_as, call_as, corner_as, if_placed, one_more_as}
 use Rattle.wi_engine.proofs.placing.+placing.Goals as goal
 
 -- ---- an expression, by its kind
@@ -29,7 +29,13 @@ placed-returns-then-eq t c =
 -- ---- two operands
 
 pub binary-returns : goal.binary-returns
-binary-returns t c = search rules
+binary-returns t c =
+    let s = c.args.store.now.sheet in
+    let ps = c.args.places.now in
+    let left = tree_of c.args.left.now in
+    let right = tree_of c.args.right.now in
+    let second : IfSome c.in_ok-y.field-0 (IsPlacedAs s ps right) = search rules in
+    binary_as s ps c.args.operator left right c.in-Some.x c.in-Some-2.y c.in_ok-operands.operands c.in_ok-operands.ensures.ok (rw c.in-Some.is at c.in_ok-x.ensures) (rw c.in-Some-2.is at second)
 
 -- ---- a call
 
