@@ -7,6 +7,7 @@ pub mod Frames
 pub mod Keeps
 pub mod Lists
 pub mod MemoState
+pub mod Placing
 pub mod Plans
 pub mod Remembered
 pub mod Saving

@@ -15,6 +15,7 @@ mod lacking;
 mod lists;
 mod memo;
 mod occupied;
+mod placing;
 mod plan;
 mod planning;
 mod pool;
@@ -27,6 +28,7 @@ mod together;
 mod walk;
 
 pub use memo::Memo;
+pub use placing::{PlacedCell, PlacedPlan};
 pub use plan::{Plan, Planned};
 pub use planning::make_plan;
 pub use pool::Pool;

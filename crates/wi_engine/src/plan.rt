@@ -1,27 +1,31 @@
 //! The value of a cell where some are replaced, by the formulas between them one after another.
 
-ghost use Rattle.std.specs.Prelude.{◌≡◌, ◌≤◌, true, false, None, Ok, IfOk, IfSome, OnErr, is_ok};
+ghost use Rattle.std.specs.Prelude.{◌≡◌, ◌≤◌, true, false, map, None, Ok, IfOk, IfSome, OnErr, is_none, is_ok};
 ghost use Rattle.std.specs.Bool.{OnTrue};
-ghost use Rattle.wi_parser.specs.Sheet.{content_of, has_formula, put_all};
+ghost use Rattle.wi_parser.specs.Sheet.{Sheet, content_of, has_formula, put_all};
+ghost use Rattle.wi_functions.specs.Meaning as formulas;
+ghost use Rattle.wi_functions.specs.Placed.{placed_value};
 ghost use Rattle.wi_graph.specs.Circular.{circular};
 ghost use Rattle.wi_sheet.specs.CellValue as values;
 ghost use Rattle.wi_sheet.specs.Demand.{reaching};
 ghost use Rattle.wi_sheet.specs.Inner.Spending.{HasCase};
 ghost use Rattle.wi_engine.specs.Inner.Frames.{MayBeRead};
 ghost use Rattle.wi_engine.specs.Inner.MemoState.{IsMemoOf};
+ghost use Rattle.wi_engine.specs.Inner.Placing.{IsPlacedPlan};
 ghost use Rattle.wi_engine.specs.Inner.Plans.{AreGiven, CountsCell, CountsOne, Follows, IsReady, IsUnkept, MayBeFollowed, MayBeValued};
 ghost use Rattle.wi_engine.specs.Inner.Saving.{NeedsNoEvaluation};
 ghost use Rattle.wi_engine.specs.Inner.Spends.{SpendsAtMost};
 
 use crate::asked::value_now;
-use crate::content_ref::formula_in;
+use crate::content_ref::{formula_in, replaced};
 use crate::findings::Findings;
 use crate::frame::Step;
 use crate::known::Known;
 use crate::memo::Memo;
+use crate::placing::{PlacedCell, PlacedPlan};
 use crate::question::Question;
 use std::alloc::{AllocError, Global};
-use wi_functions::{Meter, Outcome, evaluate};
+use wi_functions::{Meter, Outcome, Placed, evaluate, evaluate_placed};
 use wi_store::Store;
 use wi_values::{Address, Value};
 use wi_worlds::World;
@@ -41,6 +45,8 @@ pub struct Plan {
     pub root: Address,
     pub inputs: Vec<Address>,
     pub cells: Vec<Planned>,
+    /// Its formulas over places, where they can be placed.
+    pub placed: Option<PlacedPlan>,
 }
 
 impl<M: Memo + Drop> Question<M> {
@@ -100,6 +106,97 @@ impl<M: Memo + Drop> Question<M> {
         if !self.are_given(store, world, plan)? {
             return Ok(None);
         }
+        match &plan.placed {
+            Some(placed) => self.follow_placed(store, world, plan, placed),
+            None => self.follow_trees(store, world, plan),
+        }
+    }
+
+    /// As `follow`, by formulas over places, where the values are there that it is to be given: each takes an
+    /// evaluation that looks no cell up.
+    fn follow_placed(
+        &mut self,
+        store: &Store,
+        world: &World,
+        plan: &Plan,
+        placed: &PlacedPlan,
+    ) -> Result<Option<Value>, AllocError>
+        requires plan { MayBeFollowed store.now.sheet (M.state self.old.memo) world.now plan.now }
+        requires placed { IsPlacedPlan store.now.sheet plan.now.inputs.items plan.now.root
+            plan.now.cells.items placed.now }
+        requires formula { has_formula (content_of
+            (put_all store.now.sheet world.now) plan.now.root)
+            ≡ true }
+        requires given { AreGiven store.now.sheet
+            (M.state self.old.memo) world.now plan.now.cells.items }
+        ensures follows { Follows store.now.sheet world.now plan.now.root
+            self.old.meter self.new.meter result }
+        ensures same { M.state self.new.memo ≡ M.state self.old.memo }
+    {
+        let alloc = self.pool.allocator();
+        let Some(mut found) = input_values(alloc, world, plan)? else {
+            return Ok(None);
+        };
+        found.reserve(placed.cells.len())?;
+        for cell in &placed.cells {
+            let value = self.cell_over(store, world, cell, &found)?;
+            found.push_reserved(value);
+        }
+        let value = placed_value(alloc, &placed.root, &found, &mut self.meter)?;
+        Ok(Some(value))
+    }
+
+    /// The value of a plan's cell over those before it: one that is to be given is there.
+    #[inline(always)]
+    fn cell_over(
+        &mut self,
+        store: &Store,
+        world: &World,
+        cell: &PlacedCell,
+        found: &[Value],
+    ) -> Result<Value, AllocError>
+        requires cell { MayBeValued store.now.sheet (M.state self.old.memo) world.now
+            cell.now.planned.at }
+        requires given { cell.now.formula ≡ None
+            → NeedsNoEvaluation store.now.sheet (M.state self.old.memo) world.now
+            cell.now.planned.at }
+        requires ready { IfSome cell.now.formula (λ p. formulas.zero_for_empty
+            (placed_value p found.now)
+            ≡ values.cell_value (put_all store.now.sheet world.now) cell.now.planned.at) }
+        ensures value { IfOk result (λ v.
+            v ≡ values.cell_value (put_all store.now.sheet world.now) cell.now.planned.at) }
+        ensures same { M.state self.new.memo ≡ M.state self.old.memo }
+        ensures counts { IfOk result (λ _.
+            CountsCell (is_none cell.now.formula) self.old.meter self.new.meter) }
+        ensures err { OnErr result (self.new.meter ≡ self.old.meter) }
+    {
+        let alloc = self.pool.allocator();
+        match &cell.formula {
+            Some(formula) => placed_value(alloc, formula, found, &mut self.meter),
+            None => match value_now(alloc, store, world, cell.planned.at, &mut self.memo)? {
+                Step::Ready(value) => Ok(value),
+                Step::First(_) => unreachable!(),
+            },
+        }
+    }
+
+    /// As `follow`, by the formulas as they stand in the sheet, where the values are there that it is to be given.
+    fn follow_trees(
+        &mut self,
+        store: &Store,
+        world: &World,
+        plan: &Plan,
+    ) -> Result<Option<Value>, AllocError>
+        requires plan { MayBeFollowed store.now.sheet (M.state self.old.memo) world.now plan.now }
+        requires formula { has_formula (content_of
+            (put_all store.now.sheet world.now) plan.now.root)
+            ≡ true }
+        requires given { AreGiven store.now.sheet
+            (M.state self.old.memo) world.now plan.now.cells.items }
+        ensures follows { Follows store.now.sheet world.now plan.now.root
+            self.old.meter self.new.meter result }
+        ensures same { M.state self.new.memo ≡ M.state self.old.memo }
+    {
         let mut found = Findings::new();
         for planned in &plan.cells {
             let value = self.planned_cell(store, world, *planned, &found)?;
@@ -189,6 +286,41 @@ impl<M: Memo + Drop> Question<M> {
             Step::First(_) => unreachable!(),
         }
     }
+}
+
+/// The values that are put into a plan's inputs. Room is taken for those of its cells too. None where one isn't
+/// replaced.
+fn input_values(alloc: Global, world: &World, plan: &Plan) -> Result<Option<Vec<Value>>, AllocError>
+    ensures { IfOk result (λ o. IfSome o (λ vs. (s : Sheet)
+        → map (values.cell_value (put_all s world.now)) plan.now.inputs.items ≡ vs.items)) }
+{
+    let mut values = Vec::with_capacity(alloc, plan.inputs.len().saturating_add(plan.cells.len()))?;
+    for input in &plan.inputs {
+        let Some(value) = replaced(world, *input) else {
+            return Ok(None);
+        };
+        values.push(value.copy(alloc)?)?;
+    }
+    Ok(Some(values))
+}
+
+/// The value of a placed formula over values. It is counted; where memory runs out nothing is.
+#[inline(always)]
+fn placed_value(
+    alloc: Global,
+    formula: &Placed,
+    found: &[Value],
+    meter: &mut Meter,
+) -> Result<Value, AllocError>
+    ensures value { IfOk result
+        (λ v. v ≡ formulas.zero_for_empty (placed_value formula.now found.now)) }
+    ensures counts { IfOk result (λ _. CountsOne meter.old meter.new) }
+    ensures err { OnErr result (meter.new ≡ meter.old) }
+{
+    // Each count is at most the greatest number, so one more is no less.
+    let _ = meter.evaluations();
+    let _ = meter.restarts();
+    evaluate_placed(alloc, formula, found, meter)
 }
 
 /// The value of a formula that rests on what was found. It is counted; where memory runs out nothing is.

@@ -14,11 +14,12 @@ ghost use Rattle.wi_parser.specs.View.{tree_of, all_of};
 ghost use Rattle.wi_sheet.specs.Demand.{what_ifs_of};
 ghost use Rattle.wi_engine.specs.Inner.Frames.{MayBeRead, content_reads_here};
 ghost use Rattle.wi_engine.specs.Inner.MemoState.{IsMemoOf};
-ghost use Rattle.wi_engine.specs.Inner.Plans.{IsWholePlan, MayBeNext, RestsOnSettled, begun_reading, comes_later, is_unsettled, is_what_if, planned_cells};
+ghost use Rattle.wi_engine.specs.Inner.Plans.{IsPlanOf, IsWholePlan, MayBeNext, RestsOnSettled, begun_reading, comes_later, is_unsettled, is_what_if, planned_cells};
 
 use crate::content_ref::{formula_at, formula_in};
 use crate::memo::Memo;
 use crate::occupied::{is_in_one, next_within};
+use crate::placing::placed_plan;
 use crate::plan::{Plan, Planned};
 use std::alloc::{AllocError, Global};
 use std::collections::{BTreeMap, BTreeSet};
@@ -72,8 +73,7 @@ pub fn make_plan<M: Memo>(
 ) -> Result<Option<Plan>, AllocError>
     requires memo { IsMemoOf store.now.sheet (M.state memo.old) }
     requires read { MayBeRead store.now.sheet (M.state memo.old) root }
-    ensures plan { IfOk result (λ o. IfSome o (λ p.
-        IsWholePlan store.now.sheet p.inputs.items p.root p.cells.items)) }
+    ensures plan { IfOk result (λ o. IfSome o (λ p. IsPlanOf store.now.sheet p)) }
     ensures root { IfOk result (λ o. IfSome o (λ p. p.root ≡ root)) }
     ensures inputs { IfOk result (λ o. IfSome o (λ p.
         p.inputs.items ≡ map (λ r. r.at) world.now)) }
@@ -93,8 +93,7 @@ fn checked(
     root: Address,
     draft: Draft,
 ) -> Result<Option<Plan>, AllocError>
-    ensures plan { IfOk result (λ o. IfSome o (λ p.
-        IsWholePlan store.now.sheet p.inputs.items p.root p.cells.items)) }
+    ensures plan { IfOk result (λ o. IfSome o (λ p. IsPlanOf store.now.sheet p)) }
     ensures root { IfOk result (λ o. IfSome o (λ p. p.root ≡ root)) }
     ensures inputs { IfOk result (λ o. IfSome o (λ p.
         p.inputs.items ≡ map (λ r. r.at) world.now)) }
@@ -103,10 +102,12 @@ fn checked(
     if !is_plan(alloc, store, &inputs, root, &draft.cells, &draft.readers)? {
         return Ok(None);
     }
+    let placed = placed_plan(alloc, store, &inputs, root, &draft.cells)?;
     Ok(Some(Plan {
         root,
         inputs,
         cells: draft.cells,
+        placed,
     }))
 }
 

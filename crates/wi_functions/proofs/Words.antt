@@ -1,5 +1,5 @@
 -- The words of the library, of the crates below and of this crate's definitions that its proofs are written in.
-pub use Rattle.std.proofs.Common.{Any, Bool, Contains, Err, FitsSigned, IfSome, List, None, Ok, Option, Result, Some, [], ap, append_assoc, ap₂, arith, cond, drop, drop-cons, eq-eqb, false, length, lit<, lit≤, map, max, refl, rules, slice_index_or, subst, suc, sym, true, zero, ℕ, ℤ, ◌*◌, ◌++◌, ◌+◌, ◌<◌, ◌==◌, ◌||◌, ◌∙◌, ◌∷◌, ◌≡◌, ◌≤◌}
+pub use Rattle.std.proofs.Common.{Any, Bool, Contains, Err, FitsSigned, IfOk, IfSome, List, None, Ok, Option, Result, Some, [], ap, append_assoc, ap₂, arith, cond, drop, drop-cons, eq-eqb, false, length, lit<, lit≤, map, max, refl, rules, slice_index_or, subst, suc, sym, true, zero, ℕ, ℤ, ◌*◌, ◌++◌, ◌+◌, ◌<◌, ◌==◌, ◌||◌, ◌∙◌, ◌∷◌, ◌≡◌, ◌≤◌}
 pub use Rattle.std.proofs.Math.Nat.{div-add-mod', mod-lt}
 pub use Rattle.std.proofs.lemmas.Bool.{eqb-true}
 pub use Rattle.std.proofs.lemmas.Bool.Decides.{nat_tests}

@@ -4,3 +4,4 @@ pub mod Counts
 pub mod Wants
 pub mod Evaluation
 pub mod Inner
+pub mod Placed

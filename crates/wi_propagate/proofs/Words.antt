@@ -35,7 +35,7 @@ pub use Rattle.wi_engine.specs.Inner.Keeps.{HasFound, Keeps}
 pub use Rattle.wi_engine.specs.Inner.MemoState.{IsMemoOf, IsComplete, MemoState}
 pub use Rattle.wi_engine.specs.Inner.Remembered.{OneQuestion, question_state, remembered}
 pub use Rattle.wi_engine.specs.Inner.Saving.{GivesUpWhenFull, IsValuedAnew, KeepsFound, NeedsNoEvaluation, TakesNoMore, TakesPlaces, WhereSpace}
-pub use Rattle.wi_engine.specs.Inner.Plans.{IsUnkept, IsWholePlan, MayBeFollowed}
+pub use Rattle.wi_engine.specs.Inner.Plans.{IsPlanOf, IsUnkept, MayBeFollowed}
 pub use Rattle.wi_engine.specs.Inner.Spends.{IsSameBeside, Saved, Spends, SpendsAtMost}
 pub use Rattle.wi_functions.specs.Counts.{Counts}
 pub use Rattle.wi_functions.specs.Meaning.{zero_for_empty}

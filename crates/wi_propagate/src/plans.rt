@@ -4,7 +4,7 @@ ghost use Rattle.std.specs.Prelude.{◌≡◌, map, true, IfSome};
 ghost use Rattle.wi_parser.specs.Sheet.{Sheet};
 ghost use Rattle.wi_engine.specs.Inner.Frames.{MayBeRead};
 ghost use Rattle.wi_engine.specs.Inner.MemoState.{IsMemoOf};
-ghost use Rattle.wi_engine.specs.Inner.Plans.{IsWholePlan};
+ghost use Rattle.wi_engine.specs.Inner.Plans.{IsPlanOf};
 ghost use Rattle.wi_propagate.specs.Inner.Planned.{ArePlans};
 
 use std::alloc::Global;
@@ -64,7 +64,7 @@ impl Plans {
         ensures root { IfSome result (λ p. p.now.root ≡ root) }
         ensures inputs { IfSome result (λ p. map (λ r. r.at) world.now ≡ p.now.inputs.items) }
         ensures plan { (s : Sheet) → ArePlans s self.now → IfSome result (λ p.
-            IsWholePlan s p.now.inputs.items p.now.root p.now.cells.items) }
+            IsPlanOf s p.now) }
     {
         for plan in &self.plans {
             if is_for(plan, root, world) {
@@ -119,7 +119,7 @@ impl Plans {
     /// Adds a plan. Where there are many, the others go.
     fn add(&mut self, plan: Plan)
         ensures { (s : Sheet) → ArePlans s self.old
-            → IsWholePlan s plan.inputs.items plan.root plan.cells.items → ArePlans s self.new }
+            → IsPlanOf s plan → ArePlans s self.new }
     {
         self.make_space();
         if self.plans.reserve(1).is_ok() {

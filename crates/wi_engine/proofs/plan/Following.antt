@@ -1,5 +1,5 @@
 -- The cells of a plan are found one after another.
-use Rattle.wi_engine.proofs.Words.{◌≡◌, ◌==◌, ◌⊎◌, inl, inr, ◌||◌, ◌+◌, ◌-◌, ◌^◌, ◌<◌, ◌≤◌, ℕ, Bool, true, false, cond, suc, List, [], ◌∷◌, ◌++◌, map, take, drop, get_or, length, All, Contains, Option, Some, None, IfSome, is_some, Result, Ok, Err, IsErr, IfOk, is_ok, refl, ap, sym, ◌∙◌, subst, arith, append_assoc, cases_lt, map-append, list_any-append, or-false, or_cases, or_left, or_right, or_from, and_parts, true≢false, eq-eqb, AllocError, Value, Replacement, Tree, Sheet, content_of, put_all, has_formula, content_reads, Formula, constant, plain, put_formula, same_cell, is_one_of, Counts, one_more, cell_value, what_if_value, Case, case_of, reaching, same_case, Table, IsClosed, NeverFall, SpentOn, left, left_falls, one_less_left, spent_all, spent_none, spent_then, never_fall-same, never_fall-then, plus, wants, MemoState, IsMemoOf, MayBeRead, IsWithCell, found_value, found_what_ifs, Findings}
+use Rattle.wi_engine.proofs.Words.{◌≡◌, ◌==◌, ◌⊎◌, inl, inr, ◌||◌, ◌+◌, ◌-◌, ◌^◌, ◌<◌, ◌≤◌, ℕ, Bool, true, false, cond, suc, List, [], ◌∷◌, ◌++◌, map, take, drop, get_or, length, All, Contains, Option, Some, None, is_some, Result, Ok, Err, IsErr, refl, ap, sym, ◌∙◌, subst, arith, append_assoc, cases_lt, map-append, list_any-append, or-false, or_cases, or_left, or_right, or_from, and_parts, true≢false, eq-eqb, AllocError, Value, Replacement, Sheet, content_of, put_all, has_formula, constant, plain, put_formula, same_cell, is_one_of, Counts, one_more, cell_value, what_if_value, Case, case_of, reaching, same_case, Table, IsClosed, NeverFall, SpentOn, left_falls, one_less_left, spent_all, spent_none, spent_then, never_fall-same, never_fall-then, plus, wants, MemoState, IsWithCell, found_value, found_what_ifs, Findings}
 use Rattle.wi_sheet.specs.Inner.Spending.{price}
 use Rattle.wi_sheet.proofs.CaseCosts.{spent_nothing, spent_price}
 use Rattle.wi_parser.specs.Inner.Puts.{put}
@@ -54,22 +54,15 @@ module _ {items ps : List Planned} (same : items ≡ ps) (i : ℕ) (x : Planned)
 
 -- ---- what was counted
 
--- what is so after these cells of a plan: their values are found, and of the cases that the root demands as many are taken as values
--- were counted
-pub record IsFollowing (s : Sheet) (w : List Replacement) (root : ℕ) (front : List Planned) (f : Findings) (start now : Counts) : Type 0 where
-  pub found : AreFound s w (planned_cells front) f
+-- what was counted for these cells of a plan: of the cases that the root demands as many are taken as values were counted
+pub record IsCounted (s : Sheet) (w : List Replacement) (root : ℕ) (front : List Planned) (start now : Counts) : Type 0 where
   pub counts : NeverFall start now
   pub taken : Table
   pub only : (c : ℕ) (v : List Replacement) → taken c v ≡ true → is_one_of (planned_cells front) c ≡ true
   pub spent : (ks : List Case) → IsClosed s ks → Contains ks (case_of s w root) → SpentOn s (λ c v. false) taken start now true ks
 
-pub following_none : {s : Sheet} {w : List Replacement} {root : ℕ} {f : Findings} (now : Counts) → ((c : ℕ) → found_value f c ≡ None) → found_what_ifs f ≡ [] → IsFollowing s w root [] f now now
-following_none {s} {w} {root} {f} now cells what_ifs = record {
-  found = record {
-    right = right_none (cell_value (put_all s w)) (what_if_value (put_all s w)) f cells what_ifs;
-    known = λ c. ap (λ (o : Option Value). is_some o) (cells c);
-    what_ifs = what_ifs;
-  };
+pub counted_none : {s : Sheet} {w : List Replacement} {root : ℕ} (now : Counts) → IsCounted s w root [] now now
+counted_none {s} {w} {root} now = record {
   counts = never_fall-same now;
   taken = λ c v. false;
   only = λ c v i. absurd (true≢false (sym i));
@@ -85,10 +78,10 @@ counted_case {s} {taken} {more} {k} {now} {next} ks one grows free there =
     let fewer = left_falls (wants s) taken more ks (λ c v i. grows c v ∙ or_left (taken c v) _ i) in
     spent_all s taken more now next true ks (omega (arith, up, less), omega (arith, none, fewer))
 
-module _ {s : Sheet} {w : List Replacement} {root : ℕ} {front : List Planned} {f : Findings} {start now : Counts} (i : IsFollowing s w root front f start now) where
+module _ {s : Sheet} {w : List Replacement} {root : ℕ} {front : List Planned} {start now : Counts} (i : IsCounted s w root front start now) where
   -- wherever memory runs out, no more was counted than the cases cost
-  pub following_at_most : (ks : List Case) → IsClosed s ks → Contains ks (case_of s w root) → NeverFall now (plus start (price s ks))
-  following_at_most ks closed top = spent_price (i.spent ks closed top)
+  pub counted_at_most : (ks : List Case) → IsClosed s ks → Contains ks (case_of s w root) → NeverFall now (plus start (price s ks))
+  counted_at_most ks closed top = spent_price (i.spent ks closed top)
 
   -- a cell that isn't found yet isn't taken
   free_case : (c : ℕ) → is_one_of (planned_cells front) c ≡ false → (b : Bool) → i.taken c (reaching s c w) ≡ b → i.taken c (reaching s c w) ≡ false
@@ -100,10 +93,10 @@ module _ {s : Sheet} {w : List Replacement} {root : ℕ} {front : List Planned} 
   root_at_most {next} none one ks closed top =
       spent_price (spent_then (i.spent ks closed top) (counted_case {s = s} {taken = i.taken} {more = λ c v. i.taken c v || same_case (case_of s w root) (c, v)} ks one (λ c v. refl) (free_case root none (i.taken root (reaching s root w)) refl) top))
 
-  -- with the value of one more
+  -- with one more
   module _ {m : MemoState} {inputs back : List ℕ} {p : Planned} (may : MayBePlanned s inputs root (planned_cells front) p back) (need : IsNeeded s m w root p.at) where
-    cells : (c : ℕ) → is_one_of (planned_cells (front ++ p ∷ [])) c ≡ (is_one_of (planned_cells front) c || (p.at == c))
-    cells c =
+    pub cells_with : (c : ℕ) → is_one_of (planned_cells (front ++ p ∷ [])) c ≡ (is_one_of (planned_cells front) c || (p.at == c))
+    cells_with c =
         ap (λ (xs : List ℕ). is_one_of xs c) (map-append (λ (q : Planned). q.at) front (p ∷ []))
         ∙ list_any-append (λ x. x == c) (planned_cells front) (p.at ∷ [])
         ∙ ap (λ (b : Bool). is_one_of (planned_cells front) c || b) (or-false (p.at == c))
@@ -113,7 +106,7 @@ module _ {s : Sheet} {w : List Replacement} {root : ℕ} {front : List Planned} 
     cell_at_most {next} h = at p.is_given h
       where
         at : (b : Bool) → CountsCell b now next → NeverFall start next × ((ks : List Case) → IsClosed s ks → Contains ks (case_of s w root) → NeverFall next (plus start (price s ks)))
-        at true e = (rw e i.counts, λ ks closed top. rw e (following_at_most ks closed top))
+        at true e = (rw e i.counts, λ ks closed top. rw e (counted_at_most ks closed top))
         at false one = (
           never_fall-then start now next i.counts one.0,
           λ ks closed top.
@@ -121,45 +114,65 @@ module _ {s : Sheet} {w : List Replacement} {root : ℕ} {front : List Planned} 
               (counted_case {s = s} {taken = i.taken} {more = λ c u. i.taken c u || same_case (case_of s w p.at) (c, u)} ks one (λ c u. refl) (free_case p.at may.once (i.taken p.at (reaching s p.at w)) refl) (need.demanded ks closed top))),
         )
 
-    module _ {g : Findings} {v : Value} (more : IsWithCell f g p.at v) (is : v ≡ cell_value (put_all s w) p.at) where
-      found_more : AreFound s w (planned_cells (front ++ p ∷ [])) g
-      found_more = record {
-        right = right_cell (cell_value (put_all s w)) (what_if_value (put_all s w)) f g p.at v more is i.found.right;
-        known = λ c. ap (λ (o : Option Value). is_some o) (more.cells c) ∙ known c (p.at == c) ∙ sym (cells c);
-        what_ifs = more.what_ifs ∙ i.found.what_ifs;
-      }
-        where
-          known : (c : ℕ) (b : Bool) → is_some (cond b (Some v) (found_value f c)) ≡ (is_one_of (planned_cells front) c || b)
-          known c true = sym (or_right (is_one_of (planned_cells front) c) true refl)
-          known c false = i.found.known c ∙ sym (or-false (is_one_of (planned_cells front) c))
+    pub counted_more : {next : Counts} → CountsCell p.is_given now next → IsCounted s w root (front ++ p ∷ []) start next
+    counted_more {next} h = at p.is_given h
+      where
+        only : (c : ℕ) (u : List Replacement) → (i.taken c u || same_case (case_of s w p.at) (c, u)) ≡ true → is_one_of (planned_cells (front ++ p ∷ [])) c ≡ true
+        only c u k = cells_with c ∙ by (or_cases (i.taken c u) (same_case (case_of s w p.at) (c, u)) k)
+          where
+            by : (i.taken c u ≡ true) ⊎ (same_case (case_of s w p.at) (c, u) ≡ true) → (is_one_of (planned_cells front) c || (p.at == c)) ≡ true
+            by (inl j) = or_left (is_one_of (planned_cells front) c) _ (i.only c u j)
+            by (inr j) = or_right (is_one_of (planned_cells front) c) _ (and_parts (p.at == c) _ j).0
 
-      pub following_more : {next : Counts} → CountsCell p.is_given now next → IsFollowing s w root (front ++ p ∷ []) g start next
-      following_more {next} h = at p.is_given h
-        where
-          only : (c : ℕ) (u : List Replacement) → (i.taken c u || same_case (case_of s w p.at) (c, u)) ≡ true → is_one_of (planned_cells (front ++ p ∷ [])) c ≡ true
-          only c u k = cells c ∙ by (or_cases (i.taken c u) (same_case (case_of s w p.at) (c, u)) k)
-            where
-              by : (i.taken c u ≡ true) ⊎ (same_case (case_of s w p.at) (c, u) ≡ true) → (is_one_of (planned_cells front) c || (p.at == c)) ≡ true
-              by (inl j) = or_left (is_one_of (planned_cells front) c) _ (i.only c u j)
-              by (inr j) = or_right (is_one_of (planned_cells front) c) _ (and_parts (p.at == c) _ j).0
+        at : (b : Bool) → CountsCell b now next → IsCounted s w root (front ++ p ∷ []) start next
+        at true e = record {
+          counts = rw e i.counts;
+          taken = i.taken;
+          only = λ c u k. cells_with c ∙ or_left (is_one_of (planned_cells front) c) _ (i.only c u k);
+          spent = λ ks closed top. rw e (i.spent ks closed top);
+        }
+        at false one = record {
+          counts = never_fall-then start now next i.counts one.0;
+          taken = λ c u. i.taken c u || same_case (case_of s w p.at) (c, u);
+          only = only;
+          spent = λ ks closed top.
+              spent_then (i.spent ks closed top)
+              (counted_case {s = s} {taken = i.taken} {more = λ c u. i.taken c u || same_case (case_of s w p.at) (c, u)} ks one (λ c u. refl) (free_case p.at may.once (i.taken p.at (reaching s p.at w)) refl) (need.demanded ks closed top));
+        }
 
-          at : (b : Bool) → CountsCell b now next → IsFollowing s w root (front ++ p ∷ []) g start next
-          at true e = record {
-            found = found_more;
-            counts = rw e i.counts;
-            taken = i.taken;
-            only = λ c u k. cells c ∙ or_left (is_one_of (planned_cells front) c) _ (i.only c u k);
-            spent = λ ks closed top. rw e (i.spent ks closed top);
-          }
-          at false one = record {
-            found = found_more;
-            counts = never_fall-then start now next i.counts one.0;
-            taken = λ c u. i.taken c u || same_case (case_of s w p.at) (c, u);
-            only = only;
-            spent = λ ks closed top.
-                spent_then (i.spent ks closed top)
-                (counted_case {s = s} {taken = i.taken} {more = λ c u. i.taken c u || same_case (case_of s w p.at) (c, u)} ks one (λ c u. refl) (free_case p.at may.once (i.taken p.at (reaching s p.at w)) refl) (need.demanded ks closed top));
-          }
+-- ---- what was found
+
+-- what is so after these cells of a plan: their values are found, and counted
+pub record IsFollowing (s : Sheet) (w : List Replacement) (root : ℕ) (front : List Planned) (f : Findings) (start now : Counts) : Type 0 where
+  pub found : AreFound s w (planned_cells front) f
+  pub counted : IsCounted s w root front start now
+
+pub following_none : {s : Sheet} {w : List Replacement} {root : ℕ} {f : Findings} (now : Counts) → ((c : ℕ) → found_value f c ≡ None) → found_what_ifs f ≡ [] → IsFollowing s w root [] f now now
+following_none {s} {w} {root} {f} now cells what_ifs = record {
+  found = record {
+    right = right_none (cell_value (put_all s w)) (what_if_value (put_all s w)) f cells what_ifs;
+    known = λ c. ap (λ (o : Option Value). is_some o) (cells c);
+    what_ifs = what_ifs;
+  };
+  counted = counted_none now;
+}
+
+-- with the value of one more
+module _ {s : Sheet} {m : MemoState} {w : List Replacement} {root : ℕ} {front : List Planned} {f g : Findings} {start now : Counts} {inputs back : List ℕ} {p : Planned} {v : Value}
+    (i : IsFollowing s w root front f start now) (may : MayBePlanned s inputs root (planned_cells front) p back) (need : IsNeeded s m w root p.at) (more : IsWithCell f g p.at v) (is : v ≡ cell_value (put_all s w) p.at) where
+  found_more : AreFound s w (planned_cells (front ++ p ∷ [])) g
+  found_more = record {
+    right = right_cell (cell_value (put_all s w)) (what_if_value (put_all s w)) f g p.at v more is i.found.right;
+    known = λ c. ap (λ (o : Option Value). is_some o) (more.cells c) ∙ known c (p.at == c) ∙ sym (cells_with i.counted may need c);
+    what_ifs = more.what_ifs ∙ i.found.what_ifs;
+  }
+    where
+      known : (c : ℕ) (b : Bool) → is_some (cond b (Some v) (found_value f c)) ≡ (is_one_of (planned_cells front) c || b)
+      known c true = sym (or_right (is_one_of (planned_cells front) c) true refl)
+      known c false = i.found.known c ∙ sym (or-false (is_one_of (planned_cells front) c))
+
+  pub following_more : {next : Counts} → CountsCell p.is_given now next → IsFollowing s w root (front ++ p ∷ []) g start next
+  following_more {next} h = record { found = found_more; counted = counted_more i.counted may need h }
 
 -- ---- the end
 
@@ -180,8 +193,8 @@ more_counted a b c l e = at (cases_lt b (2 ^ 64 - 1))
     at (inr f) = inr (omega (arith, e, f))
 
 -- once the root's value is there
-pub follows_root : {s : Sheet} {w : List Replacement} {root : ℕ} {front : List Planned} {f : Findings} {start now next : Counts} {v : Value} → IsFollowing s w root front f start now → is_one_of (planned_cells front) root ≡ false → CountsOne now next → v ≡ cell_value (put_all s w) root → Follows s w root start next (Ok (Some v))
-follows_root {s} {w} {root} {front} {f} {start} {now} {next} i none one is = record {
+pub follows_root : {s : Sheet} {w : List Replacement} {root : ℕ} {front : List Planned} {start now next : Counts} {v : Value} → IsCounted s w root front start now → is_one_of (planned_cells front) root ≡ false → CountsOne now next → v ≡ cell_value (put_all s w) root → Follows s w root start next (Ok (Some v))
+follows_root {s} {w} {root} {front} {start} {now} {next} i none one is = record {
   value = is;
   none = λ e. let z = e in cc;
   counts = never_fall-then start now next i.counts one.0;

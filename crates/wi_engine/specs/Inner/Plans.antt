@@ -19,6 +19,7 @@ use Rattle.wi_engine.specs.Inner.MemoState.{IsMemoOf, MemoState}
 use Rattle.wi_engine.specs.Inner.Findings.{AreAllRight, found_value, found_what_ifs}
 use Rattle.wi_engine.specs.Inner.Frames.{IsDemanded, MayBeRead, content_reads_here}
 use Rattle.wi_engine.specs.Inner.Saving.{NeedsNoEvaluation}
+use Rattle.wi_engine.specs.Inner.Placing.{IsPlacedPlan}
 use Rattle.wi_engine.specs.declared.findings.Findings.{Findings}
 use Rattle.wi_engine.specs.declared.plan.Plan.{Plan}
 use Rattle.wi_engine.specs.declared.plan.Planned.{Planned}
@@ -52,12 +53,18 @@ pub record IsWholePlan (s : Sheet) (inputs : List ℕ) (root : ℕ) (ps : List P
   pub cells : IsPlan s inputs root ps
   pub rests : RestsOnEarlier s inputs (planned_cells ps) root
 
+-- A plan is one of the sheet, and where its formulas are placed they are rightly.
+pub record IsPlanOf (s : Sheet) (p : Plan) : Type 0 where
+  pub whole : IsWholePlan s p.inputs.items p.root p.cells.items
+  pub placed : IfSome p.placed (IsPlacedPlan s p.inputs.items p.root p.cells.items)
+
 -- A plan may be followed where its inputs are replaced, and its root may be read.
 pub record MayBeFollowed (s : Sheet) (m : MemoState) (w : List Replacement) (p : Plan) : Type 0 where
   pub memo : IsMemoOf s m
   pub read : MayBeRead s m p.root
   pub plan : IsWholePlan s p.inputs.items p.root p.cells.items
   pub inputs : map (λ r. r.at) w ≡ p.inputs.items
+  pub placed : IfSome p.placed (IsPlacedPlan s p.inputs.items p.root p.cells.items)
 
 -- ---- what is so while a plan is followed
 

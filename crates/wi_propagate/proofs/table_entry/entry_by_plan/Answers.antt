@@ -10,8 +10,9 @@ planned_value-requires-clause-plan g c =
     record {
       memo = subst (λ (x : MemoState). IsMemoOf s x) (sym same) c.requires.entry.memo;
       read = rw (p.root, same) c.requires.entry.formula_cell;
-      plan = p.plan s c.requires.plans;
+      plan = (p.plan s c.requires.plans).whole;
       inputs = p.inputs;
+      placed = (p.plan s c.requires.plans).placed;
     }
 
 pub returns-in-Some-find-clause-spends : goal.returns-in-Some-find-clause-spends

@@ -1,6 +1,6 @@
 use Rattle.wi_engine.proofs.Words.{◌≡◌, take}
 use Rattle.wi_engine.proofs.plan.Following.{IsFollowing}
-use Rattle.wi_engine.proofs.question.Question.follow.Given as goal
+use Rattle.wi_engine.proofs.question.Question.follow_trees.Given as goal
 
 abbrev pub invariant-loop-planned : goal.invariant-loop-planned
 invariant-loop-planned g l =

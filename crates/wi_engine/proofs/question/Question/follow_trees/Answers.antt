@@ -1,14 +1,14 @@
-use Rattle.wi_engine.proofs.Words.{◌≡◌, ◌∙◌, ℕ, true, false, rules, take, All, Option, Some, None, ap, refl, subst, sym, arith, common_steps, List, is_one_of, is_some, Value, Sheet, content_of, MemoState, NeedsNoEvaluation, Findings, found_value}
+use Rattle.wi_engine.proofs.Words.{◌≡◌, ◌∙◌, ℕ, true, false, take, Option, Some, None, ap, refl, subst, sym, arith, common_steps, List, is_one_of, is_some, Value, MemoState, NeedsNoEvaluation, found_value}
 use Rattle.wi_engine.specs.declared.plan.Planned.{Planned}
 use Rattle.wi_engine.specs.Inner.Plans.{AreFound, IsNeeded, MayBeValued, planned_cells}
 use Rattle.wi_engine.proofs.plan.Orders.{followed_needed, stays_formula, stays_there}
-use Rattle.wi_engine.proofs.plan.Following.{IsFollowing, item_of, item_planned, one_more_item, is_ready, cell_at_most, following_at_most, following_more, following_none, follows_err, follows_root, root_apart}
-use Rattle.wi_engine.proofs.question.Question.follow.Goals as goal
+use Rattle.wi_engine.proofs.plan.Following.{IsFollowing, item_of, item_planned, one_more_item, is_ready, cell_at_most, counted_at_most, following_more, following_none, follows_err, follows_root, root_apart}
+use Rattle.wi_engine.proofs.question.Question.follow_trees.Goals as goal
 
 pub loop-planned-init : goal.loop-planned-init
 loop-planned-init g c = record {
-  same = c.in_ok-are_given.ensures.same;
-  following = rw c.in_ok-are_given.ensures.counts (following_none c.args.self.now.meter c.new-found.ensures.cells c.new-found.ensures.what_ifs);
+  same = refl;
+  following = following_none c.args.self.now.meter c.new-found.ensures.cells c.new-found.ensures.what_ifs;
 }
 
 pub planned_cell-requires-clause-cell : goal.planned_cell-requires-clause-cell
@@ -26,9 +26,7 @@ planned_cell-requires-clause-given g c =
     let s = c.args.store.now.sheet in
     let m = g.M.Memo.state c.args.self.now.memo in
     let w = c.args.world.now in
-    let P : Planned → Type 0 = λ p. p.is_given ≡ true → NeedsNoEvaluation s m w p.at in
-    let given : All P c.args.plan.now.cells.items = search rules in
-    let one = item_of c.deref-planned-items.ensures.value c.loop-planned.planned-index c.planned-item.result c.loop-planned-test.true c.planned-item.is P given in
+    let one = item_of c.deref-planned-items.ensures.value c.loop-planned.planned-index c.planned-item.result c.loop-planned-test.true c.planned-item.is (λ p. p.is_given ≡ true → NeedsNoEvaluation s m w p.at) c.requires.given in
     λ e. subst (λ (x : MemoState). NeedsNoEvaluation s x w c.planned-item.result.at) (sym c.loop-planned.invariant.same) (one e)
 
 pub planned_cell-requires-clause-ready : goal.planned_cell-requires-clause-ready
@@ -73,9 +71,9 @@ ready_value-requires-clause-ready g c =
 
 pub returns-in_err-value-clause-follows : goal.returns-in_err-value-clause-follows
 returns-in_err-value-clause-follows g c =
-    let i = c.loop-planned.invariant.following in
+    let i = c.loop-planned.invariant.following.counted in
     let e = c.in_err-value.ensures.err in
-    follows_err c.from_residual-in_err-value.result c.from_residual-in_err-value.ensures.0 (rw e i.counts) (λ ks closed top. rw e (following_at_most i ks closed top))
+    follows_err c.from_residual.result c.from_residual.ensures.0 (rw e i.counts) (λ ks closed top. rw e (counted_at_most i ks closed top))
 
 pub returns-in_err-add_cell-clause-follows : goal.returns-in_err-add_cell-clause-follows
 returns-in_err-add_cell-clause-follows g c =
@@ -85,14 +83,14 @@ returns-in_err-add_cell-clause-follows g c =
     let all = followed_needed c.requires.plan c.requires.formula in
     let need = item_of c.deref-planned-items.ensures.value c.loop-planned.planned-index c.planned-item.result c.loop-planned-test.true c.planned-item.is (λ p. IsNeeded s m w c.args.plan.now.root p.at) all in
     let may = item_planned c.deref-planned-items.ensures.value c.loop-planned.planned-index c.planned-item.result c.loop-planned-test.true c.planned-item.is c.requires.plan.plan.cells in
-    let most = cell_at_most c.loop-planned.invariant.following may need c.in_ok-value.ensures.counts in
+    let most = cell_at_most c.loop-planned.invariant.following.counted may need c.in_ok-value.ensures.counts in
     follows_err c.from_residual-in_err-add_cell.result c.from_residual-in_err-add_cell.ensures.0 most.0 most.1
 
 pub returns-in_err-value-2-clause-follows : goal.returns-in_err-value-2-clause-follows
 returns-in_err-value-2-clause-follows g c =
-    let i = c.loop-planned.invariant.following in
+    let i = c.loop-planned.invariant.following.counted in
     let e = c.in_err-value-2.ensures.err in
-    follows_err c.from_residual-in_err-value-2.result c.from_residual-in_err-value-2.ensures.0 (rw e i.counts) (λ ks closed top. rw e (following_at_most i ks closed top))
+    follows_err c.from_residual-in_err-value-2.result c.from_residual-in_err-value-2.ensures.0 (rw e i.counts) (λ ks closed top. rw e (counted_at_most i ks closed top))
 
 pub returns-clause-follows : goal.returns-clause-follows
 returns-clause-follows g c =
@@ -100,4 +98,4 @@ returns-clause-follows g c =
     let w = c.args.world.now in
     let whole : take c.loop-planned.planned-index c.deref-planned-items.result.now ≡ c.deref-planned-items.result.now = grind (arith, common_steps) in
     let i = subst (λ (ps : List Planned). IsFollowing s w c.args.plan.now.root ps c.loop-planned.found c.args.self.now.meter c.loop-planned.self.meter) (whole ∙ c.deref-planned-items.ensures.value) c.loop-planned.invariant.following in
-    follows_root i (root_apart c.requires.plan.plan.cells) c.in_ok-value-2.ensures.counts c.in_ok-value-2.ensures.value
+    follows_root i.counted (root_apart c.requires.plan.plan.cells) c.in_ok-value-2.ensures.counts c.in_ok-value-2.ensures.value
