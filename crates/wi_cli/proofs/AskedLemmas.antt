@@ -1,47 +1,54 @@
 -- What a line asks for, by its name and its words.
-use Rattle.wi_cli.proofs.Vocabulary.{◌≡◌, ℕ, suc, ◌+◌, ◌<◌, ◌≤◌, Bool, true, false, ◌||◌, ◌&&◌, not, cond, eqb, List, [], ◌∷◌, length, take, refl, sym, ap, ◌∙◌, subst, ⊎_elim, Option, None, Some, Result, Err, list_all, position_or_len, before_first, after_first, is_utf8, IsUtf8, or_cases, eqb-true, le-ltb, lt-ltb, false_from_ne_true, arith, false≢true, is_utf8-from_IsUtf8, IsUtf8-from_is_utf8, codes, Refusal, Refused, is_space, skip_spaces, first_word, after_word, without_cr, is_all_spaces, is_comment, CsvLine, csv_named, csv_by_name, csv_text, csv_line, edit_command, named_command, spelled_command, text_command, line_command, IsCommandOf, IsAsked}
+use Rattle.wi_cli.proofs.Vocabulary.{◌≡◌, ℕ, suc, ◌+◌, ◌<◌, ◌≤◌, Bool, true, false, ◌||◌, ◌&&◌, not, cond, eqb, List, [], ◌∷◌, length, take, refl, sym, ap, ◌∙◌, subst, ⊎_elim, Option, None, Some, Result, Err, list_all, position_or_len, before_first, after_first, is_utf8, IsUtf8, or_cases, eqb-true, le-ltb, lt-ltb, false_from_ne_true, arith, false≢true, is_utf8-from_IsUtf8, IsUtf8-from_is_utf8, codes, Refusal, is_space, skip_spaces, first_word, after_word, without_cr, is_all_spaces, is_comment, CsvLine, csv_named, csv_by_name, csv_text, csv_line, named_command, spelled_command, text_command, line_command, IsAsked, edit_forms, named_in, Reading, IsRead, IsReadAs, IsReading, Command, Unknown, Unreadable}
 use Rattle.wi_scenarios.specs.declared.refusal.Refusal.TheVariants.{Memory, BadCommand, BadLine}
-use Rattle.wi_cli.specs.Inner.Calls.{Call}
 use Rattle.wi_cli.specs.declared.line.Line.{Line}
 use Rattle.wi_cli.specs.declared.line.Line.TheVariants as read
 use Rattle.wi_cli.specs.declared.command.Command.{Command as ReadCommand}
 use Rattle.wi_cli.proofs.NamedLemmas.{not_name, edit_named}
+use Rattle.wi_cli.proofs.Ties.Readings.{unknown, unreadable, read_as}
 
-pub asked_same : (a b : Option CsvLine) (t u : Bool) (o p : Option Call) (r : Line) → a ≡ b → t ≡ u → o ≡ p → IsAsked b u p r → IsAsked a t o r
+pub asked_same : (a b : Option CsvLine) (t u : Bool) (o p : Option Command) (r : Line) → a ≡ b → t ≡ u → o ≡ p → IsAsked b u p r → IsAsked a t o r
 asked_same a b t u o p r e f g h =
     subst (λ x. IsAsked x t o r) (sym e) (subst (λ x. IsAsked b x o r) (sym f) (subst (λ x. IsAsked b u x r) (sym g) h))
 
 -- one that is refused as it is read
-pub asked_refused : (a : Option CsvLine) (t : Bool) (o : Option Call) (e : Refusal) → a ≡ None → o ≡ Some (Refused e) → (e ≡ Memory → ⊥) → IsAsked a t o (read.Command (Err e))
-asked_refused a t o e none is grows = (none, (Refused e, is, (refl, grows)))
+pub asked_refused : (a : Option CsvLine) (t : Bool) (o : Option Command) (c : Command) (e : Refusal) → a ≡ None → o ≡ Some c → IsRead c (Err e) → IsAsked a t o (read.Command (Err e))
+asked_refused a t o c e none is r = (none, (c, is, r))
+
+pub no_command : IsRead Unknown (Err BadCommand)
+no_command = (unknown, λ (e : BadCommand ≡ Memory). cc)
+
+pub bad_line : IsRead Unreadable (Err BadLine)
+bad_line = (unreadable, λ (e : BadLine ≡ Memory). cc)
 
 -- ---- by its name
 
 -- an edit of this name
-pub edit_asked : (force : Bool) (word operands name : List ℕ) (r : Line) → word ≡ name → IsAsked (csv_named force name operands) true (Some (edit_command force name operands)) r
-    → IsAsked (csv_named force word operands) true (Some (edit_command force word operands)) r
-edit_asked force word operands name r is h = subst (λ w. IsAsked (csv_named force w operands) true (Some (edit_command force w operands)) r) (sym is) h
+pub edit_asked : (force : Bool) (word operands name : List ℕ) (r : Line) → word ≡ name → IsAsked (csv_named force name operands) true (Some (named_in (edit_forms force) name operands)) r
+    → IsAsked (csv_named force word operands) true (Some (named_in (edit_forms force) word operands)) r
+edit_asked force word operands name r is h = subst (λ w. IsAsked (csv_named force w operands) true (Some (named_in (edit_forms force) w operands)) r) (sym is) h
 
 -- one that asks for no data lines
-pub plain_edit : (force : Bool) (word operands name : List ℕ) (r : Result ReadCommand Refusal) → word ≡ name → csv_named force name operands ≡ None → IsCommandOf (edit_command force name operands) r
-    → IsAsked (csv_named force word operands) true (Some (edit_command force word operands)) (read.Command r)
-plain_edit force word operands name r is none h = edit_asked force word operands name (read.Command r) is (none, (edit_command force name operands, refl, h))
+pub plain_edit : (force : Bool) (word operands name : List ℕ) (w : Reading) (r : Result ReadCommand Refusal) → word ≡ name → csv_named force name operands ≡ None
+    → IsReadAs (named_in (edit_forms force) name operands) w → IsReading w r → IsAsked (csv_named force word operands) true (Some (named_in (edit_forms force) word operands)) (read.Command r)
+plain_edit force word operands name w r is none h k =
+    edit_asked force word operands name (read.Command r) is (none, (named_in (edit_forms force) name operands, refl, read_as (named_in (edit_forms force) name operands) w r h k))
 
 -- one behind `force`
 pub forced_asked : (text word operands : List ℕ) (r : Line) → word ≡ first_word text → operands ≡ after_word text
-    → IsAsked (csv_named true word operands) true (Some (edit_command true word operands)) r
-    → IsAsked (csv_named true (first_word text) (after_word text)) true (Some (edit_command true (first_word text) (after_word text))) r
+    → IsAsked (csv_named true word operands) true (Some (named_in (edit_forms true) word operands)) r
+    → IsAsked (csv_named true (first_word text) (after_word text)) true (Some (named_in (edit_forms true) (first_word text) (after_word text))) r
 forced_asked text word operands r first behind h =
-    subst (λ w. IsAsked (csv_named true w (after_word text)) true (Some (edit_command true w (after_word text))) r) first
-    (subst (λ os. IsAsked (csv_named true word os) true (Some (edit_command true word os)) r) behind h)
+    subst (λ w. IsAsked (csv_named true w (after_word text)) true (Some (named_in (edit_forms true) w (after_word text))) r) first
+    (subst (λ os. IsAsked (csv_named true word os) true (Some (named_in (edit_forms true) word os)) r) behind h)
 
 -- an edit of no name
 pub no_edit : (force : Bool) (word operands : List ℕ) → (word ≡ codes "set" → ⊥) → (word ≡ codes "clear" → ⊥) → (word ≡ codes "fill" → ⊥) → (word ≡ codes "csv" → ⊥)
-    → IsAsked (csv_named force word operands) true (Some (edit_command force word operands)) (read.Command (Err BadCommand))
+    → IsAsked (csv_named force word operands) true (Some (named_in (edit_forms force) word operands)) (read.Command (Err BadCommand))
 no_edit force word operands a b c d =
     let none : csv_named force word operands ≡ None = rw (not_name word (codes "csv") d) refl in
-    let bad : edit_command force word operands ≡ Refused BadCommand = rw (not_name word (codes "set") a, not_name word (codes "clear") b, not_name word (codes "fill") c) refl in
-    asked_refused _ true _ BadCommand none (ap (λ (c : Call). Some c) bad) (λ (e : BadCommand ≡ Memory). cc)
+    let bad : named_in (edit_forms force) word operands ≡ Unknown = rw (not_name word (codes "set") a, not_name word (codes "clear") b, not_name word (codes "fill") c) refl in
+    asked_refused _ true _ Unknown BadCommand none (ap (λ (c : Command). Some c) bad) no_command
 
 -- a line of this name
 pub name_asked : (word operands name : List ℕ) (r : Line) → word ≡ name → IsAsked (csv_by_name name operands) true (Some (named_command name operands)) r
@@ -49,18 +56,18 @@ pub name_asked : (word operands name : List ℕ) (r : Line) → word ≡ name �
 name_asked word operands name r is h = subst (λ w. IsAsked (csv_by_name w operands) true (Some (named_command w operands)) r) (sym is) h
 
 -- one that asks for no data lines
-pub plain_asked : (word operands name : List ℕ) (r : Result ReadCommand Refusal) → word ≡ name → csv_by_name name operands ≡ None → IsCommandOf (named_command name operands) r
+pub plain_asked : (word operands name : List ℕ) (w : Reading) (r : Result ReadCommand Refusal) → word ≡ name → csv_by_name name operands ≡ None → IsReadAs (named_command name operands) w → IsReading w r
     → IsAsked (csv_by_name word operands) true (Some (named_command word operands)) (read.Command r)
-plain_asked word operands name r is none h = name_asked word operands name (read.Command r) is (none, (named_command name operands, refl, h))
+plain_asked word operands name w r is none h k = name_asked word operands name (read.Command r) is (none, (named_command name operands, refl, read_as (named_command name operands) w r h k))
 
 -- one whose name is none of the others is an edit's
 pub others_asked : (word operands : List ℕ) (r : Line)
     → (word ≡ codes "force" → ⊥) → (word ≡ codes "scenario" → ⊥) → (word ≡ codes "drop" → ⊥) → (word ≡ codes "base" → ⊥)
     → (word ≡ codes "use" → ⊥) → (word ≡ codes "as" → ⊥) → (word ≡ codes "show" → ⊥) → (word ≡ codes "export" → ⊥)
     → (word ≡ codes "changes" → ⊥) → (word ≡ codes "compare" → ⊥) → (word ≡ codes "table" → ⊥) → (word ≡ codes "formula" → ⊥)
-    → IsAsked (csv_named false word operands) true (Some (edit_command false word operands)) r → IsAsked (csv_by_name word operands) true (Some (named_command word operands)) r
+    → IsAsked (csv_named false word operands) true (Some (named_in (edit_forms false) word operands)) r → IsAsked (csv_by_name word operands) true (Some (named_command word operands)) r
 others_asked word operands r a b c d e f g h i j k l asked =
-    asked_same _ _ true true _ _ r (rw (not_name word (codes "force") a) refl) refl (ap (λ (c : Call). Some c) (edit_named word operands a b c d e f g h i j k l)) asked
+    asked_same _ _ true true _ _ r (rw (not_name word (codes "force") a) refl) refl (ap (λ (c : Command). Some c) (edit_named word operands a b c d e f g h i j k l)) asked
 
 -- a text with this name and these operands
 pub text_asked : (text word operands : List ℕ) (r : Line) → word ≡ first_word text → operands ≡ after_word text
@@ -104,19 +111,19 @@ unfolding csv_line line_command
 long_asked line l =
     let long = lt-ltb 65536 (length line) l in
     let content = without_cr line in
-    asked_refused (csv_line line) (is_utf8 content) (line_command line) BadLine (ap (λ b. cond b None (csv_text content)) long)
-    (ap (λ b. cond (b || not (is_utf8 content)) (Some (Refused BadLine)) (text_command content)) long) (λ (e : BadLine ≡ Memory). cc)
+    asked_refused (csv_line line) (is_utf8 content) (line_command line) Unreadable BadLine (ap (λ b. cond b None (csv_text content)) long)
+    (ap (λ b. cond (b || not (is_utf8 content)) (Some Unreadable) (text_command content)) long) bad_line
 
 short_csv : (line : List ℕ) → length line ≤ 65536 → csv_line line ≡ csv_text (without_cr line)
 unfolding csv_line
 short_csv line few = ap (λ b. cond b None (csv_text (without_cr line))) (le-ltb 65536 (length line) few)
 
-short_command : (line : List ℕ) (v : Bool) → length line ≤ 65536 → is_utf8 (without_cr line) ≡ v → line_command line ≡ cond (not v) (Some (Refused BadLine)) (text_command (without_cr line))
+short_command : (line : List ℕ) (v : Bool) → length line ≤ 65536 → is_utf8 (without_cr line) ≡ v → line_command line ≡ cond (not v) (Some Unreadable) (text_command (without_cr line))
 unfolding line_command
 short_command line v few e =
     let content = without_cr line in
-    ap (λ b. cond (b || not (is_utf8 content)) (Some (Refused BadLine)) (text_command content)) (le-ltb 65536 (length line) few)
-    ∙ ap (λ b. cond (not b) (Some (Refused BadLine)) (text_command content)) e
+    ap (λ b. cond (b || not (is_utf8 content)) (Some Unreadable) (text_command content)) (le-ltb 65536 (length line) few)
+    ∙ ap (λ b. cond (not b) (Some Unreadable) (text_command content)) e
 
 -- one that is UTF-8
 pub good_asked : (line bytes text : List ℕ) (r : Line) → length line ≤ 65536 → bytes ≡ without_cr line → text ≡ bytes → IsUtf8 bytes
@@ -128,7 +135,7 @@ good_asked line bytes text r few e t u h =
 
 -- one that isn't
 pub bad_asked : (line bytes : List ℕ) (r : Line) → length line ≤ 65536 → bytes ≡ without_cr line → (IsUtf8 bytes → ⊥)
-    → IsAsked (csv_text bytes) false (Some (Refused BadLine)) r → IsAsked (csv_line line) (is_utf8 (without_cr line)) (line_command line) r
+    → IsAsked (csv_text bytes) false (Some Unreadable) r → IsAsked (csv_line line) (is_utf8 (without_cr line)) (line_command line) r
 bad_asked line bytes r few e bad h =
     let none : is_utf8 (without_cr line) ≡ false = false_from_ne_true (is_utf8 (without_cr line)) (λ u. bad (subst IsUtf8 (sym e) (IsUtf8-from_is_utf8 (without_cr line) u))) in
     asked_same _ _ _ false _ _ r (short_csv line few ∙ ap csv_text (sym e)) none (short_command line false few none) h

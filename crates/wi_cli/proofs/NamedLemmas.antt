@@ -1,7 +1,8 @@
 -- A command by its name and its words.
-use Rattle.wi_cli.proofs.Vocabulary.{◌≡◌, ℕ, Bool, true, false, cond, List, refl, sym, ap, ◌∙◌, subst, Result, codes, bytes_eq, bytes_eq-Decides, read_rect, Refusal, Refused, first_word, after_word, of_name, of_operand, read_side, is_all_spaces, compare_command, edit_command, named_command, IsCommandOf}
+use Rattle.wi_cli.proofs.Vocabulary.{◌≡◌, ℕ, Bool, true, false, cond, List, refl, sym, ap, ◌∙◌, subst, Result, codes, bytes_eq, bytes_eq-Decides, read_rect, Refusal, first_word, after_word, of_name, of_operand, read_side, is_all_spaces, compare_command, named_command, IsReading, Err, Ok, edit_forms, named_in, Reading}
 use Rattle.wi_scenarios.specs.declared.refusal.Refusal.TheVariants.{BadCommand}
-use Rattle.wi_cli.specs.Inner.Calls.{Call, Compare}
+use Rattle.wi_scenarios.specs.Commands.Operands.{corners}
+use Rattle.wi_scenarios.specs.Commands.Command.{Compare}
 use Rattle.wi_cli.specs.declared.command.Command.{Command as ReadCommand}
 
 -- a word that is none of the other names is an edit's
@@ -16,17 +17,17 @@ pub edit_named : (word operands : List ℕ)
     → (word ≡ codes "force" → ⊥) → (word ≡ codes "scenario" → ⊥) → (word ≡ codes "drop" → ⊥) → (word ≡ codes "base" → ⊥)
     → (word ≡ codes "use" → ⊥) → (word ≡ codes "as" → ⊥) → (word ≡ codes "show" → ⊥) → (word ≡ codes "export" → ⊥)
     → (word ≡ codes "changes" → ⊥) → (word ≡ codes "compare" → ⊥) → (word ≡ codes "table" → ⊥) → (word ≡ codes "formula" → ⊥)
-    → named_command word operands ≡ edit_command false word operands
+    → named_command word operands ≡ named_in (edit_forms false) word operands
 edit_named word operands a b c d e f g h i j k l =
     rw (not_name word (codes "force") a, not_name word (codes "scenario") b, not_name word (codes "drop") c, not_name word (codes "base") d, not_name word (codes "use") e, not_name word (codes "as") f, not_name word (codes "show") g, not_name word (codes "export") h, not_name word (codes "changes") i, not_name word (codes "compare") j, not_name word (codes "table") k, not_name word (codes "formula") l) refl
 
-abbrev pub compare_words : List ℕ → List ℕ → List ℕ → Call
-compare_words one two area = of_name (read_side one) (λ s. of_name (read_side two) (λ t. of_operand (read_rect area) (λ cells. Compare s t cells)))
+abbrev pub compare_words : List ℕ → List ℕ → List ℕ → Reading
+compare_words one two area = of_name (read_side one) (λ s. of_name (read_side two) (λ t. of_operand (read_rect area) (λ cells. Ok (Compare s t (corners cells)))))
 
 -- its three words are the operands, and none is left
 pub compared : (text one behind two behind' area : List ℕ) (r : Result ReadCommand Refusal) → one ≡ first_word text → behind ≡ after_word text
     → two ≡ first_word behind → behind' ≡ after_word behind → is_all_spaces (after_word behind') ≡ true → area ≡ first_word behind'
-    → IsCommandOf (compare_words one two area) r → IsCommandOf (compare_command text) r
+    → IsReading (compare_words one two area) r → IsReading (compare_command text) r
 compared text one behind two behind' area r o b t b' e a h =
     let b'' : behind' ≡ after_word (after_word text) = b' ∙ ap after_word b in
     let none : is_all_spaces (after_word (after_word (after_word text))) ≡ true = sym (ap (λ x. is_all_spaces (after_word x)) b'') ∙ e in
@@ -34,5 +35,5 @@ compared text one behind two behind' area r o b t b' e a h =
     ap (λ x. compare_words x two area) o ∙ ap (λ x. compare_words (first_word text) x area) (t ∙ ap first_word b)
     ∙ ap (compare_words (first_word text) (first_word (after_word text))) (a ∙ ap first_word b'') in
     let said : compare_command text ≡ compare_words (first_word text) (first_word (after_word text)) (first_word (after_word (after_word text))) =
-    ap (λ v. cond v (compare_words (first_word text) (first_word (after_word text)) (first_word (after_word (after_word text)))) (Refused BadCommand)) none in
-    subst (λ (c : Call). IsCommandOf c r) (words ∙ sym said) h
+    ap (λ v. cond v (compare_words (first_word text) (first_word (after_word text)) (first_word (after_word (after_word text)))) (Err BadCommand)) none in
+    subst (λ (c : Reading). IsReading c r) (words ∙ sym said) h

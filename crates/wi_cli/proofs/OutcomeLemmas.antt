@@ -1,7 +1,6 @@
 -- A run of a script so far, and how it may end.
-use Rattle.wi_cli.proofs.Vocabulary.{◌≡◌, ℕ, ◌+◌, ◌-◌, ◌<◌, ◌≤◌, Bool, true, false, List, [], ◌∷◌, ◌++◌, length, take, refl, sym, ap, ◌∙◌, subst, Option, None, Some, Result, Ok, Err, IfErr, OnOk, append_assoc, append-nil, length-append, inl, inr, arith, concat, option_to_list, Appends, Keeps, Consumes, IsAtEnd, prepend_known, Appends-trans, Appends-nil, Appends-kept, take_at, filter_map-append, filter-append, concat-append, take-append-add, RunFault, Memory, Read, Write, ScriptLimit, State, Takes, raw_lines, Block, blocks, is_complete, block_command, commands, whole_lines, all_commands, complete_commands, AreWhole, AreBlocks, TookBlock, BrokeBlock, Turned, Stopped, WritesReplies, RunOutcome, WritesFrontOfReplies, limited, IsRun}
+use Rattle.wi_cli.proofs.Vocabulary.{◌≡◌, ℕ, ◌+◌, ◌-◌, ◌<◌, ◌≤◌, Bool, true, false, List, [], ◌∷◌, ◌++◌, length, take, refl, sym, ap, ◌∙◌, subst, Option, None, Some, Result, Ok, Err, IfErr, OnOk, append_assoc, append-nil, length-append, inl, inr, arith, concat, option_to_list, Appends, Keeps, Consumes, IsAtEnd, prepend_known, Appends-trans, Appends-nil, Appends-kept, take_at, filter_map-append, filter-append, concat-append, take-append-add, RunFault, Memory, Read, Write, ScriptLimit, State, Takes, raw_lines, Block, blocks, is_complete, block_command, commands, whole_lines, all_commands, complete_commands, AreWhole, AreBlocks, TookBlock, BrokeBlock, Turned, Stopped, WritesReplies, RunOutcome, WritesFrontOfReplies, limited, IsRun, Command}
 use Rattle.std.specs.List.{filter, filter_map}
-use Rattle.wi_cli.specs.Inner.Calls.{Call}
 use Rattle.wi_cli.specs.Inner.Turn.{CutShort}
 use Rattle.wi_cli.proofs.Ties.Outcomes.{has_outcome}
 use Rattle.wi_cli.proofs.ReadingLemmas.{Takes-trans}
@@ -39,7 +38,7 @@ going_none left s given = record {
 }
 
 -- the commands of blocks, and of one more
-with_command : (done taken : List Block) (command : Option Call) → filter_map block_command taken ≡ option_to_list command
+with_command : (done taken : List Block) (command : Option Command) → filter_map block_command taken ≡ option_to_list command
     → filter_map block_command (done ++ taken) ≡ filter_map block_command done ++ option_to_list command
 with_command done taken command e = filter_map-append block_command done taken ∙ ap (λ x. filter_map block_command done ++ x) e
 
@@ -118,7 +117,7 @@ module _ (left : Option (List ℕ)) (b : List ℕ) (p : Option (List ℕ)) (s m 
   few_behind ls last count' e few = omega (arith, length-append h.lines (ls ++ raw_lines last), length-append ls (raw_lines last), h.counted)
 
   -- the commands of all, where those behind are one block
-  commands_behind : (ls : List (List ℕ)) (taken : List Block) (command : Option Call) → blocks ls ≡ taken → filter_map block_command taken ≡ option_to_list command
+  commands_behind : (ls : List (List ℕ)) (taken : List Block) (command : Option Command) → blocks ls ≡ taken → filter_map block_command taken ≡ option_to_list command
       → commands (h.lines ++ ls) ≡ filter_map block_command h.done ++ option_to_list command
   commands_behind ls taken command e f =
       ap (filter_map block_command) (h.are_blocks.first ls ∙ ap (λ z. h.done ++ z) e) ∙ with_command h.done taken command f
@@ -257,7 +256,7 @@ ends_write left b p c q s m t w x y count h k = go k.whole k.block where
   written : Appends w y (h.out ++ k.out)
   written = Appends-trans w x y _ _ h.written k.written
 
-  front : (cs others : List Call) → cs ≡ (filter_map block_command h.done ++ option_to_list k.command) ++ others → WritesFrontOfReplies s cs (h.out ++ k.out) t
+  front : (cs others : List Command) → cs ≡ (filter_map block_command h.done ++ option_to_list k.command) ++ others → WritesFrontOfReplies s cs (h.out ++ k.out) t
   front cs others e = record {
     earlier = filter_map block_command h.done;
     last = k.command;

@@ -1,9 +1,7 @@
 -- Lines that were taken from the source, and the block that they are.
-use Rattle.wi_cli.proofs.Vocabulary.{◌≡◌, ℕ, ◌+◌, ◌<◌, ◌≤◌, Bool, true, false, cond, ltb, List, [], ◌∷◌, ◌++◌, length, refl, sym, ap, ◌∙◌, subst, Option, None, Some, append_assoc, append-nil, length-append, arith, concat, cons_option, option_to_list, IsAtEnd, prepend_known, Consumes-nil, concat-append, false≢true, ltb-true, ltb-false, read_address, Refused, RunFault, Memory, Read, Write, ScriptLimit, DataLines, raw_lines, without_lf, without_cr, is_whole, csv_line, csv_command, Block, lines_of, begun, is_complete, blocks, line_command, command_with, block_command, Takes, raw, TookLine, Broke, TookLines, BrokeLines, command_of_csv, TookData, BrokeData, TookBlock, BrokeBlock}
+use Rattle.wi_cli.proofs.Vocabulary.{◌≡◌, ℕ, ◌+◌, ◌<◌, ◌≤◌, Bool, true, false, cond, ltb, List, [], ◌∷◌, ◌++◌, length, refl, sym, ap, ◌∙◌, subst, Option, None, Some, append_assoc, append-nil, length-append, arith, concat, cons_option, option_to_list, IsAtEnd, prepend_known, Consumes-nil, concat-append, false≢true, ltb-true, ltb-false, read_address, RunFault, Memory, Read, Write, ScriptLimit, DataLines, raw_lines, without_lf, without_cr, is_whole, csv_line, Block, lines_of, begun, is_complete, blocks, line_command, command_with, block_command, Takes, raw, TookLine, Broke, TookLines, BrokeLines, command_of_csv, TookData, BrokeData, TookBlock, BrokeBlock, spelled_cell, Command, Csv, Unreadable}
 use Rattle.std.specs.List.{filter, filter_map}
 use Rattle.std.specs.Str.{is_utf8, chars}
-use Rattle.wi_scenarios.specs.declared.refusal.Refusal.TheVariants.{BadLine}
-use Rattle.wi_cli.specs.Inner.Calls.{Call}
 use Rattle.wi_cli.specs.declared.csv_line.CsvLine.{CsvLine as ReadCsv}
 use Rattle.wi_cli.proofs.ReadingLemmas.{Takes-trans}
 use Rattle.wi_cli.proofs.LineLemmas.{AreWhole-none, AreWhole-one, AreWhole-append, raw_lines-last, raw_lines-raw, without_lf-raw, few_last}
@@ -168,11 +166,11 @@ none_asked : csv_line [] ≡ None
 unfolding csv_line
 none_asked = refl
 
-to_list : (o : Option Call) → cons_option o [] ≡ option_to_list o
+to_list : (o : Option Command) → cons_option o [] ≡ option_to_list o
 to_list None = refl
 to_list (Some c) = refl
 
-one_command : (b : Block) (o : Option Call) → block_command b ≡ o → filter_map block_command (b ∷ []) ≡ option_to_list o
+one_command : (b : Block) (o : Option Command) → block_command b ≡ o → filter_map block_command (b ∷ []) ≡ option_to_list o
 one_command b o e = ap (λ x. cons_option x []) e ∙ to_list o
 
 -- the command of a line that asks for no data lines
@@ -214,13 +212,12 @@ pub record IsCsvOf (content : List ℕ) (csv : ReadCsv) : Type 0 where
   pub at : csv.at ≡ read_address word
   pub text : csv.is_text ≡ is_utf8 (without_cr content)
 
-csv_block_command : (line content : List ℕ) (csv : ReadCsv) (ds : List (List ℕ)) (m : ℕ) → without_lf line ≡ content → IsCsvOf content csv
-    → block_command (block_of line ds m) ≡ Some (command_of_csv csv ds m)
-csv_block_command line content csv ds m e h =
-    ap (λ x. command_with x (block_of line ds m)) (ap csv_line e ∙ h.asked)
-    ∙ ap (λ x. Some (cond (is_utf8 (without_cr x)) (csv_command csv.force (read_address h.word) ds m) (Refused BadLine))) e
-    ∙ ap (λ x. Some (cond x (csv_command csv.force (read_address h.word) ds m) (Refused BadLine))) (sym h.text)
-    ∙ ap (λ x. Some (cond csv.is_text (csv_command csv.force x ds m) (Refused BadLine))) (sym h.at)
+csv_block_command : (line content : List ℕ) (csv : ReadCsv) (is : IsCsvOf content csv) (ds : List (List ℕ)) (m : ℕ) → without_lf line ≡ content
+    → block_command (block_of line ds m) ≡ Some (command_of_csv csv (spelled_cell is.word) ds)
+csv_block_command line content csv is ds m e =
+    ap (λ x. command_with x (block_of line ds m)) (ap csv_line e ∙ is.asked)
+    ∙ ap (λ x. Some (cond (is_utf8 (without_cr x)) (Csv csv.force (spelled_cell is.word) csv.lines ds) Unreadable)) e
+    ∙ ap (λ x. Some (cond x (Csv csv.force (spelled_cell is.word) csv.lines ds) Unreadable)) (sym is.text)
 
 asked_of : (line content : List ℕ) (csv : ReadCsv) → without_lf line ≡ content → IsCsvOf content csv → lines_of (csv_line (without_lf line)) ≡ csv.lines
 asked_of line content csv e h = ap lines_of (ap csv_line e ∙ h.asked)
@@ -232,25 +229,25 @@ abbrev pub data_of : {whole : Bool} {b : List ℕ} {l : Option (List ℕ)} {b' :
 data_of k = k.lines ++ raw_lines k.last
 
 pub csv_block : (before whole : Bool) (a : List ℕ) (p : Option (List ℕ)) (b : List ℕ) (q : Option (List ℕ)) (c : List ℕ) (r : Option (List ℕ)) (line : List ℕ) (m n o : ℕ)
-    → m ≤ 1000000 → (k : TookLine (ltb m 1000000) before a p b q line) → IsCounted before m n → (csv : ReadCsv) → IsCsvOf k.content csv → (d : DataLines)
+    → m ≤ 1000000 → (k : TookLine (ltb m 1000000) before a p b q line) → IsCounted before m n → (csv : ReadCsv) → (is : IsCsvOf k.content csv) → (d : DataLines)
     → (h : TookData csv.lines d before whole b q c r n o) → (whole ≡ true → d.missing ≡ 0)
-    → TookBlock (Some (command_of_csv csv (data_of h.took) d.missing)) whole a p c r m o
+    → TookBlock (Some (command_of_csv csv (spelled_cell is.word) (data_of h.took))) whole a p c r m o
 csv_block true whole a p b q c r line m n o most k e csv is d h all =
     let same = without_lf-raw true k.content k.no_lf in record {
       took = TookLines-trans whole a p b q c r m n o (one_taken true a p b q line m n most k e) h.took;
       taken = block_of (raw true k.content) (data_of h.took) d.missing ∷ [];
       are_blocks = block_at whole (raw true k.content) (data_of h.took) d.missing (asked_of (raw true k.content) k.content csv same is ∙ sym h.missing) all;
-      is_command = one_command (block_of (raw true k.content) (data_of h.took) d.missing) (Some (command_of_csv csv (data_of h.took) d.missing)) (csv_block_command (raw true k.content) k.content csv (data_of h.took) d.missing same is);
+      is_command = one_command (block_of (raw true k.content) (data_of h.took) d.missing) (Some (command_of_csv csv (spelled_cell is.word) (data_of h.took))) (csv_block_command (raw true k.content) k.content csv is (data_of h.took) d.missing same);
       grows = λ _. omega (arith, e, h.took.counted);
     }
 csv_block false whole a p b q c r line m n o most k e csv is d h all = go whole (h.none_taken refl).0 h where
-  go : (whole : Bool) → whole ≡ false → (h : TookData csv.lines d false whole b q c r n o) → TookBlock (Some (command_of_csv csv (data_of h.took) d.missing)) whole a p c r m o
+  go : (whole : Bool) → whole ≡ false → (h : TookData csv.lines d false whole b q c r n o) → TookBlock (Some (command_of_csv csv (spelled_cell is.word) (data_of h.took))) whole a p c r m o
   go true f h = absurd (false≢true (sym f))
   go false f h = at_last k.content refl where
     none : data_of h.took ≡ []
     none = let e = h.none_taken refl in ap (λ ls. ls ++ raw_lines h.took.last) e.1 ∙ ap raw_lines e.2
 
-    at_last : (content : List ℕ) → content ≡ k.content → TookBlock (Some (command_of_csv csv (data_of h.took) d.missing)) false a p c r m o
+    at_last : (content : List ℕ) → content ≡ k.content → TookBlock (Some (command_of_csv csv (spelled_cell is.word) (data_of h.took))) false a p c r m o
     at_last [] f = absurd (some_bytes k.content csv is (sym f))
     at_last (x ∷ xs) f =
         let no_lf : is_whole (x ∷ xs) ≡ false = ap is_whole f ∙ k.no_lf in
@@ -272,7 +269,7 @@ csv_block false whole a p b q c r line m n o most k e csv is d h all = go whole 
           };
           taken = block_of (x ∷ xs) [] d.missing ∷ [];
           are_blocks = ap blocks one ∙ block_at false (x ∷ xs) [] d.missing (asked ∙ ap (λ z. length z + d.missing) none) (λ t. absurd (false≢true t));
-          is_command = one_command (block_of (x ∷ xs) [] d.missing) (Some (command_of_csv csv [] d.missing)) (csv_block_command (x ∷ xs) k.content csv [] d.missing same is) ∙ ap (λ z. option_to_list (Some (command_of_csv csv z d.missing))) (sym none);
+          is_command = one_command (block_of (x ∷ xs) [] d.missing) (Some (command_of_csv csv (spelled_cell is.word) [])) (csv_block_command (x ∷ xs) k.content csv is [] d.missing same) ∙ ap (λ z. option_to_list (Some (command_of_csv csv (spelled_cell is.word) z))) (sym none);
           grows = λ t. absurd (false≢true t);
         }
 

@@ -1,7 +1,5 @@
 -- A line served, and its reply written.
-use Rattle.wi_cli.proofs.Vocabulary.{◌≡◌, ℕ, ◌+◌, ◌<◌, ◌≤◌, Bool, ◌||◌, not, cond, ltb, ap, refl, ◌∙◌, ⊎_elim, Some, List, ◌++◌, length, take, drop, sym, subst, Option, None, [], Appends-nil, length-append, arith, option_to_list, Appends, Appends-trans, take-append-drop, take-append-le, length-take, take_all, lt-ltb, cases_lt, is_utf8, Refused, without_cr, take-append-add, AppendsFront, State, Passed, Reply, Told, reply_bytes, csv_line, line_command, text_command, line_front, RunFault, Result, Err, Broke, Memory, Read, Write, ScriptLimit, TookLine, TookBlock, BrokeBlock, Turned, Stopped, WritesReplies, Ok, MatchResult, CanRead, ReadsOn, IsReplied}
-use Rattle.wi_cli.specs.Inner.Calls.{Call}
-use Rattle.wi_scenarios.specs.declared.refusal.Refusal.TheVariants.{BadLine}
+use Rattle.wi_cli.proofs.Vocabulary.{◌≡◌, ℕ, ◌+◌, ◌<◌, ◌≤◌, Bool, ◌||◌, not, cond, ltb, ap, refl, ◌∙◌, ⊎_elim, Some, List, ◌++◌, length, take, drop, sym, subst, Option, None, [], Appends-nil, length-append, arith, option_to_list, Appends, Appends-trans, take-append-drop, take-append-le, length-take, take_all, lt-ltb, cases_lt, is_utf8, without_cr, take-append-add, AppendsFront, State, Passed, Reply, Told, reply_bytes, csv_line, line_command, text_command, line_front, RunFault, Result, Err, Broke, Memory, Read, Write, ScriptLimit, TookLine, TookBlock, BrokeBlock, Turned, Stopped, WritesReplies, Ok, MatchResult, CanRead, ReadsOn, IsReplied, Command, Unreadable}
 use Rattle.wi_cli.specs.Inner.Turn.{CutShort}
 use Rattle.wi_cli.proofs.RunLemmas.{WritesReplies-told}
 use Rattle.wi_cli.proofs.ReadingLemmas.{stops_unwritten}
@@ -29,10 +27,10 @@ same_at_front {X} limit n f long bad content e = ⊎_elim
 
 pub line_command-front : (content : List ℕ) → line_command (line_front content) ≡ line_command content
 unfolding line_front line_command
-line_command-front content = same_at_front 65536 65537 (λ xs. text_command (without_cr xs)) (Some (Refused BadLine)) (λ xs. not (is_utf8 (without_cr xs))) content refl
+line_command-front content = same_at_front 65536 65537 (λ xs. text_command (without_cr xs)) (Some Unreadable) (λ xs. not (is_utf8 (without_cr xs))) content refl
 
 -- a line that asks for no data lines, by what was read of its front
-pub asked_block : (whole : Bool) (b : List ℕ) (l : Option (List ℕ)) (b' : List ℕ) (l' : Option (List ℕ)) (line front : List ℕ) (count count' : ℕ) (command : Option Call) → count ≤ 1000000
+pub asked_block : (whole : Bool) (b : List ℕ) (l : Option (List ℕ)) (b' : List ℕ) (l' : Option (List ℕ)) (line front : List ℕ) (count count' : ℕ) (command : Option Command) → count ≤ 1000000
     → (k : TookLine (ltb count 1000000) whole b l b' l' line) → IsCounted whole count count' → front ≡ line → csv_line front ≡ None → line_command front ≡ command
     → TookBlock command whole b l b' l' count count'
 asked_block whole b l b' l' line front count count' command most k e same none is =
@@ -40,7 +38,7 @@ asked_block whole b l b' l' line front count count' command most k e same none i
     subst (λ o. TookBlock o whole b l b' l' count count') (sym (line_command-front k.content) ∙ ap line_command (sym read) ∙ is)
     (plain_block whole b l b' l' line count count' most k e (no_csv front k.content read none))
 
-pub turned : (whole : Bool) (b : List ℕ) (l : Option (List ℕ)) (b' : List ℕ) (l' : Option (List ℕ)) (count count' : ℕ) (s t : State) (w w' : Option (List ℕ)) (command : Option Call) (a : Reply) (out : List ℕ)
+pub turned : (whole : Bool) (b : List ℕ) (l : Option (List ℕ)) (b' : List ℕ) (l' : Option (List ℕ)) (count count' : ℕ) (s t : State) (w w' : Option (List ℕ)) (command : Option Command) (a : Reply) (out : List ℕ)
     → TookBlock command whole b l b' l' count count' → Told command a s t out → Appends w w' (reply_bytes a out) → Turned whole b l b' l' count count' s t w w'
 turned whole b l b' l' count count' s t w w' command a out k told h =
     record { command = command; block = k; out = reply_bytes a out; written = h; writes = WritesReplies-told command a s t out told }
@@ -58,7 +56,7 @@ stopped Read b l b' l' count s t w w' k same kept = (k, same, kept)
 stopped Write b l b' l' count s t w w' k same kept = absurd k.broke.cause
 stopped ScriptLimit b l b' l' count s t w w' k same kept = (k, same, kept)
 
-pub cut_short : (whole : Bool) (b : List ℕ) (l : Option (List ℕ)) (b' : List ℕ) (l' : Option (List ℕ)) (count count' : ℕ) (s t : State) (w w' : Option (List ℕ)) (command : Option Call) (a : Reply) (out : List ℕ)
+pub cut_short : (whole : Bool) (b : List ℕ) (l : Option (List ℕ)) (b' : List ℕ) (l' : Option (List ℕ)) (count count' : ℕ) (s t : State) (w w' : Option (List ℕ)) (command : Option Command) (a : Reply) (out : List ℕ)
     → TookBlock command whole b l b' l' count count' → Told command a s t out → AppendsFront w w' (reply_bytes a out) → CutShort b l b' l' count s t w w'
 cut_short whole b l b' l' count count' s t w w' command a out k told h = record {
   whole = whole;
@@ -72,7 +70,7 @@ cut_short whole b l b' l' count count' s t w w' command a out k told h = record 
 }
 
 -- a block was taken and served, and its reply was written, or a front of it
-pub answered : (r : Result Bool RunFault) (whole : Bool) (b : List ℕ) (l : Option (List ℕ)) (b' : List ℕ) (l' : Option (List ℕ)) (count count' : ℕ) (s t : State) (w w' : Option (List ℕ)) (command : Option Call) (a : Reply) (out : List ℕ)
+pub answered : (r : Result Bool RunFault) (whole : Bool) (b : List ℕ) (l : Option (List ℕ)) (b' : List ℕ) (l' : Option (List ℕ)) (count count' : ℕ) (s t : State) (w w' : Option (List ℕ)) (command : Option Command) (a : Reply) (out : List ℕ)
     → TookBlock command whole b l b' l' count count' → Told command a s t out → IsReplied whole a out r w w'
     → MatchResult r (λ end. Turned end b l b' l' count count' s t w w') (λ e. Stopped e b l b' l' count s t w w')
 answered (Ok end) whole b l b' l' count count' s t w w' command a out k told h = subst (λ x. Turned x b l b' l' count count' s t w w') (sym h.0) (turned whole b l b' l' count count' s t w w' command a out k told h.1)

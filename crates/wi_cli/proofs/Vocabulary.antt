@@ -29,32 +29,35 @@ pub use Rattle.wi_cli.specs.InTurn.{RunInTurn}
 pub use Rattle.wi_cli.specs.Inner.Ahead.{Takes, budget}
 pub use Rattle.wi_cli.specs.Inner.Asked.{IsAsked}
 pub use Rattle.wi_cli.specs.Inner.Blocks.{Block, begun, blocks, blocks_from, is_complete, lines_of, with_data}
-pub use Rattle.wi_cli.specs.Inner.CsvCommand.{CsvLine, csv_by_name, csv_command, csv_named, csv_of, csv_operands, csv_text, is_long, read_lines}
+pub use Rattle.wi_cli.specs.Inner.CsvCommand.{CsvLine, csv_by_name, csv_named, csv_of, csv_operands, csv_text, is_long, read_lines}
 unfoldable pub use Rattle.wi_cli.specs.Inner.CsvCommand.{csv_line}
-pub use Rattle.wi_cli.specs.Inner.Data.{AddedTo, BrokeData, HoldsLines, IsCsv, TookData, command_of_csv, wants}
-pub use Rattle.wi_cli.specs.Inner.EditCommands.{clear_command, edit_command, fill_command, fill_command_of, set_command}
+pub use Rattle.wi_cli.specs.Inner.Data.{AddedTo, BrokeData, HoldsLines, IsCsv, IsTarget, TookData, command_of_csv, target_of, wants}
+pub use Rattle.wi_cli.specs.Inner.EditCommands.{clear_command, fill_command, fill_command_of, set_command}
+pub use Rattle.wi_cli.specs.Inner.Forms.{AND, A_CELL, A_NAME, A_RECT, A_SESSION, A_SIDE, END, Form, Kind, MAYBE, TEXT, Value, Values, Words, as_form, base_form, changes_form, clear_form, compare_form, drop_form, edit_forms, export_form, fill_form, formula_form, forms, made, named_command, named_in, read_word, read_words, scenario_form, set_form, show_form, spelled, table_form, use_form}
+unfoldable pub use Rattle.wi_cli.specs.Inner.Forms.{spelled_command}
 pub use Rattle.wi_cli.specs.Inner.Front.{AppendsFront}
 pub use Rattle.wi_cli.specs.Inner.LookCommands.{changes_command, compare_command, export_command, formula_command, show_command}
-pub use Rattle.wi_cli.specs.Inner.Operands.{at_end, is_all_spaces, line_fault, name_or_none, of_name, of_operand, only_name, read_side, unless_refused, worse}
+pub use Rattle.wi_cli.specs.Inner.Operands.{Reading, at_end, both, is_all_spaces, line_fault, name_or_none, of_name, of_operand, only_name, read_any, read_any_area, read_by, read_side, spelled_corners, unless_refused, worse}
+unfoldable pub use Rattle.wi_cli.specs.Inner.Operands.{spelled_cell, spelled_rect}
 pub use Rattle.wi_cli.specs.Inner.Reading.{Broke, CanRead, HasStopped, ReadsOn, TookLine, TookPart, raw}
 unfoldable pub use Rattle.wi_cli.specs.Inner.Reading.{line_front}
 pub use Rattle.wi_cli.specs.Inner.Reply.{reply, refused_cell}
 unfoldable pub use Rattle.wi_cli.specs.Inner.Reply.{refused}
-pub use Rattle.wi_cli.specs.Inner.Run.{MayAnswer, WritesReplies}
+pub use Rattle.wi_cli.specs.Inner.Run.{WritesReplies}
 pub use Rattle.wi_cli.specs.Inner.RunOutcome.{RunOutcome, WritesFrontOfReplies}
 unfoldable pub use Rattle.wi_cli.specs.Inner.RunOutcome.{limited}
 pub use Rattle.wi_cli.specs.Inner.ScenarioCommands.{as_command, base_command, drop_command, scenario_command, use_command}
-pub use Rattle.wi_cli.specs.Inner.Script.{block_command, command_with, commands, is_comment, named_command, text_command, whole_lines}
-unfoldable pub use Rattle.wi_cli.specs.Inner.Script.{all_commands, complete_commands, line_command, spelled_command}
-pub use Rattle.wi_cli.specs.Inner.Spelling.{IsCommandOf, command_of}
+pub use Rattle.wi_cli.specs.Inner.Script.{block_command, command_with, commands, is_comment, text_command, whole_lines}
+unfoldable pub use Rattle.wi_cli.specs.Inner.Script.{all_commands, complete_commands, line_command}
+pub use Rattle.wi_cli.specs.Inner.Spelling.{IsRead, IsReadAs, IsReading, command_of, placed}
 pub use Rattle.wi_cli.specs.Inner.TableCommand.{table_command, table_of_one, table_of_two}
 pub use Rattle.wi_cli.specs.Inner.Taken.{AreBlocks, AreBlocksOf, AreWhole, BrokeLines, TookLines}
-pub use Rattle.wi_cli.specs.Inner.Told.{IsServed, RefusedAs, Told, reply_bytes}
+pub use Rattle.wi_cli.specs.Inner.Told.{IsServed, KeepsMemory, RefusedAs, Told, reply_bytes}
 pub use Rattle.wi_cli.specs.Inner.Turn.{BrokeBlock, IsReplied, Stopped, TookBlock, Turned}
-pub use Rattle.wi_cli.specs.Laws.{HasCommands, SameAddr, SameCommands, SameRect, Splits, a_line, asked, calls_of, cut_short, blocks_that_count, line_block, none, read_any, read_by, read_cell, read_area, call_of}
+pub use Rattle.wi_cli.specs.Laws.{SameAddr, SameRect, Splits, a_line, asked, blocks_that_count, commands_of, cut_short, line_block, none}
 pub use Rattle.wi_cli.specs.Lines.{Bytes, after_word, first_word, is_space, is_whole, max_line, max_lines, onto_first, raw_lines, skip_spaces, without_cr, without_lf}
 pub use Rattle.wi_cli.specs.Outcome.{IsRun, Outcome, Writes}
-pub use Rattle.wi_cli.specs.Reply.{Replies, accepted, cell_named, late, unserved}
+pub use Rattle.wi_cli.specs.Reply.{MayLackMemory, Replies, accepted, cell_named, late, unserved}
 pub use Rattle.wi_cli.specs.Script.{AreCommands, Asks, IsCommand, IsGood, IsWithin, is_passed_over, line_text}
 pub use Rattle.wi_cli.specs.Spelled.{IsAddr, IsRect, IsSpelled, IsWritten, a_cell, addr, two_cells}
 pub use Rattle.wi_cli.specs.declared.data_lines.DataLines.{DataLines}
@@ -76,16 +79,15 @@ pub use Rattle.wi_parser.specs.declared.fault.ParseFault.{ParseFault}
 pub use Rattle.wi_propagate.specs.KeptSheet.{KeptSheet}
 pub use Rattle.wi_scenario_list.specs.Bases.{lacks}
 pub use Rattle.wi_scenario_list.specs.Scenarios.{has_scenario, is_full}
-pub use Rattle.wi_scenarios.specs.Answer.{Answer, MayGrow, may_grow}
+pub use Rattle.wi_scenarios.specs.Answer.{Answer, MayGrow, MayRefuse, may_grow}
 pub use Rattle.wi_scenarios.specs.Commands.Causes.{BadCommand, BadField, BadLine, Cause, CutShort, EditLimit, Full, Holds, InUse, IsFirst, LeavesSheet, Loop, NoScenario, NumberRange, OutOfSheet, Outside, Stale, Syntax, TooDeep, TooLarge, TooLong, TooMany, lies_outside, order, stale_cell}
-pub use Rattle.wi_scenarios.specs.Commands.Command.{As, Base, Changes, Clear, Command, Compare, Csv, Drop, Export, Fill, Formula, Scenario, Set, Show, Table, Unknown, Unreadable, Use, form}
+pub use Rattle.wi_scenarios.specs.Commands.Command.{As, Base, Changes, Clear, Command, Compare, Csv, Drop, Export, Fill, Formula, Scenario, Set, Show, Table, Unknown, Unreadable, Use, form, may_force}
 pub use Rattle.wi_scenarios.specs.Commands.Edits.{fields, named}
 pub use Rattle.wi_scenarios.specs.Commands.Operands.{ADDR, ANY, CONTENT, Cell, Corners, LINES, NAME, Operand, RECT, SESSION, SIDE, WORD, address, area, is_outside}
-pub use Rattle.wi_scenarios.specs.Commands.Step.{IsFirstOf, IsStep, Tells, causes}
+pub use Rattle.wi_scenarios.specs.Commands.Step.{IsFirstOf, IsImportStep, IsStep, Tells, causes}
 pub use Rattle.wi_scenarios.specs.Events.{MayHappen, left_by}
 pub use Rattle.wi_scenarios.specs.Pending.{Book}
 pub use Rattle.wi_scenarios.specs.State.{State, max_area, new_state, state_over}
-pub use Rattle.wi_cli.specs.Inner.Calls.{CallMayLackMemory, Refused}
 pub use Rattle.wi_scenarios.specs.declared.refusal.Refusal.{Refusal}
 pub use Rattle.wi_sessions.specs.Sessions.{has_session}
 pub use Rattle.wi_store.specs.Store.{Stored}

@@ -1,6 +1,6 @@
 -- Words of the code's own contracts, and readers that laws tie to the definitions. Nothing here needs belief.
-pub mod Calls
 pub mod Operands
+pub mod Forms
 pub mod EditCommands
 pub mod ScenarioCommands
 pub mod LookCommands

@@ -1,12 +1,12 @@
 //! The commands that edit the sheet, as they are read. They may be forced.
 
 ghost use Rattle.std.specs.Prelude.{true, Some};
-ghost use Rattle.wi_scenarios.specs.declared.refusal.Refusal.TheVariants.{BadCommand};
-ghost use Rattle.wi_cli.specs.Inner.Calls.{Refused};
+ghost use Rattle.wi_scenarios.specs.Commands.Command.{Unknown};
 ghost use Rattle.wi_cli.specs.Lines.{first_word, after_word};
 ghost use Rattle.wi_cli.specs.Inner.CsvCommand.{csv_operands, csv_named};
-ghost use Rattle.wi_cli.specs.Inner.EditCommands.{set_command, clear_command, fill_command, fill_command_of, edit_command};
-ghost use Rattle.wi_cli.specs.Inner.Spelling.{IsCommandOf};
+ghost use Rattle.wi_cli.specs.Inner.EditCommands.{set_command, clear_command, fill_command, fill_command_of};
+ghost use Rattle.wi_cli.specs.Inner.Forms.{edit_forms, named_in};
+ghost use Rattle.wi_cli.specs.Inner.Spelling.{IsReading};
 ghost use Rattle.wi_cli.specs.Inner.Asked.{IsAsked};
 
 use crate::command::Command;
@@ -20,7 +20,7 @@ use wi_values::{Address, AddressFault, Rect};
 /// `force`, before an edit.
 pub(crate) fn read_forced(text: &str) -> Line<'_>
     ensures { IsAsked (csv_named true (first_word text.now) (after_word text.now)) true
-        (Some (edit_command true (first_word text.now) (after_word text.now))) result }
+        (Some (named_in (edit_forms true) (first_word text.now) (after_word text.now))) result }
 {
     let (name, operands) = split_word(text);
     read_edit(true, name, operands)
@@ -29,7 +29,7 @@ pub(crate) fn read_forced(text: &str) -> Line<'_>
 /// The edit of this name.
 pub(crate) fn read_edit<'a>(force: bool, name: &str, operands: &'a str) -> Line<'a>
     ensures { IsAsked (csv_named force name.now operands.now) true
-        (Some (edit_command force name.now operands.now)) result }
+        (Some (named_in (edit_forms force) name.now operands.now)) result }
 {
     match name {
         "set" => Line::Command(read_set(force, operands)),
@@ -42,7 +42,7 @@ pub(crate) fn read_edit<'a>(force: bool, name: &str, operands: &'a str) -> Line<
 
 /// `csv ADDR LINES`.
 fn read_import(force: bool, operands: &str) -> Line<'_>
-    ensures { IsAsked (csv_operands force operands.now) true (Some (Refused BadCommand)) result }
+    ensures { IsAsked (csv_operands force operands.now) true (Some Unknown) result }
 {
     match read_csv(force, operands.as_bytes()) {
         Some(csv) => Line::Csv(csv),
@@ -53,7 +53,7 @@ fn read_import(force: bool, operands: &str) -> Line<'_>
 /// `set ADDR CONTENT`, where CONTENT is all after the one space that follows ADDR.
 #[inline(always)]
 pub(crate) fn read_set(force: bool, operands: &str) -> Result<Command<'_>, Refusal>
-    ensures { IsCommandOf (set_command force operands.now) result }
+    ensures { IsReading (set_command force operands.now) result }
 {
     let (address, content) = split_word(operands);
     if content.is_empty() {
@@ -65,7 +65,7 @@ pub(crate) fn read_set(force: bool, operands: &str) -> Result<Command<'_>, Refus
 
 /// `clear RECT`.
 fn read_clear(force: bool, operands: &str) -> Result<Command<'_>, Refusal>
-    ensures { IsCommandOf (clear_command force operands.now) result }
+    ensures { IsReading (clear_command force operands.now) result }
 {
     let area = Rect::read(only_word(operands)?.as_bytes())?;
     Ok(Command::Clear { force, area })
@@ -73,7 +73,7 @@ fn read_clear(force: bool, operands: &str) -> Result<Command<'_>, Refusal>
 
 /// `fill ADDR RECT`.
 fn read_fill(force: bool, operands: &str) -> Result<Command<'_>, Refusal>
-    ensures { IsCommandOf (fill_command force operands.now) result }
+    ensures { IsReading (fill_command force operands.now) result }
 {
     let (from, others) = split_word(operands);
     let area = only_word(others)?;
@@ -90,7 +90,7 @@ fn filled<'a>(
     from: Result<Address, AddressFault>,
     area: Result<Rect, AddressFault>,
 ) -> Result<Command<'a>, Refusal>
-    ensures { IsCommandOf (fill_command_of force from area) result }
+    ensures { IsReading (fill_command_of force from area) result }
 {
     if let Some(fault) = worse(from.err(), area.err()) {
         return Err(Refusal::from(fault));

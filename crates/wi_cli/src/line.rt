@@ -2,12 +2,12 @@
 
 ghost use Rattle.std.specs.Prelude.{◌≡◌, ◌||◌, true, false, Some};
 ghost use Rattle.std.specs.Str.{is_utf8};
-ghost use Rattle.wi_scenarios.specs.declared.refusal.Refusal.TheVariants.{BadLine};
-ghost use Rattle.wi_cli.specs.Inner.Calls.{Refused};
+ghost use Rattle.wi_scenarios.specs.Commands.Command.{Unreadable};
 ghost use Rattle.wi_cli.specs.Lines.{without_cr};
 ghost use Rattle.wi_cli.specs.Inner.Operands.{is_all_spaces};
 ghost use Rattle.wi_cli.specs.Inner.CsvCommand.{csv_by_name, csv_text, csv_line};
-ghost use Rattle.wi_cli.specs.Inner.Script.{is_comment, named_command, spelled_command, text_command, line_command};
+ghost use Rattle.wi_cli.specs.Inner.Forms.{named_command, spelled_command};
+ghost use Rattle.wi_cli.specs.Inner.Script.{is_comment, text_command, line_command};
 ghost use Rattle.wi_cli.specs.Inner.Asked.{IsAsked};
 
 use crate::command::Command;
@@ -92,7 +92,7 @@ fn read_text(text: &str) -> Line<'_>
 
 /// What bytes that aren't UTF-8 ask for: data lines, or what can't be read.
 fn read_bytes(bytes: &[u8]) -> Line<'_>
-    ensures { IsAsked (csv_text bytes.now) false (Some (Refused BadLine)) result }
+    ensures { IsAsked (csv_text bytes.now) false (Some Unreadable) result }
 {
     match read_csv_bytes(bytes) {
         Some(csv) => Line::Csv(CsvLine {

@@ -1,10 +1,12 @@
 //! The commands that show what a workbook holds, as they are read.
 
+ghost use Rattle.std.specs.Prelude.{Ok};
 ghost use Rattle.wi_values.specs.AddressReading.{read_rect};
-ghost use Rattle.wi_cli.specs.Inner.Calls.{Compare};
+ghost use Rattle.wi_scenarios.specs.Commands.Command.{Compare};
+ghost use Rattle.wi_scenarios.specs.Commands.Operands.{corners};
 ghost use Rattle.wi_cli.specs.Inner.Operands.{of_name, of_operand, read_side};
 ghost use Rattle.wi_cli.specs.Inner.LookCommands.{show_command, export_command, changes_command, compare_command, formula_command};
-ghost use Rattle.wi_cli.specs.Inner.Spelling.{IsCommandOf};
+ghost use Rattle.wi_cli.specs.Inner.Spelling.{IsReading};
 
 use crate::command::Command;
 use crate::names::read_side;
@@ -14,7 +16,7 @@ use wi_values::{Address, Rect};
 
 /// `show RECT`.
 pub(crate) fn read_show(operands: &str) -> Result<Command<'_>, Refusal>
-    ensures { IsCommandOf (show_command operands.now) result }
+    ensures { IsReading (show_command operands.now) result }
 {
     let area = Rect::read(only_word(operands)?.as_bytes())?;
     Ok(Command::Show { area })
@@ -22,7 +24,7 @@ pub(crate) fn read_show(operands: &str) -> Result<Command<'_>, Refusal>
 
 /// `export RECT`.
 pub(crate) fn read_export(operands: &str) -> Result<Command<'_>, Refusal>
-    ensures { IsCommandOf (export_command operands.now) result }
+    ensures { IsReading (export_command operands.now) result }
 {
     let area = Rect::read(only_word(operands)?.as_bytes())?;
     Ok(Command::Export { area })
@@ -30,7 +32,7 @@ pub(crate) fn read_export(operands: &str) -> Result<Command<'_>, Refusal>
 
 /// `changes`.
 pub(crate) fn read_changes(operands: &str) -> Result<Command<'_>, Refusal>
-    ensures { IsCommandOf (changes_command operands.now) result }
+    ensures { IsReading (changes_command operands.now) result }
 {
     if !is_all_spaces(operands.as_bytes()) {
         return Err(Refusal::BadCommand);
@@ -40,7 +42,7 @@ pub(crate) fn read_changes(operands: &str) -> Result<Command<'_>, Refusal>
 
 /// `compare S T RECT`, where S and T are names of scenarios, or `-`.
 pub(crate) fn read_compare(operands: &str) -> Result<Command<'_>, Refusal>
-    ensures { IsCommandOf (compare_command operands.now) result }
+    ensures { IsReading (compare_command operands.now) result }
 {
     let (first, others) = split_word(operands);
     let (second, others) = split_word(others);
@@ -50,8 +52,8 @@ pub(crate) fn read_compare(operands: &str) -> Result<Command<'_>, Refusal>
 
 /// `compare` of these words.
 fn compare_of<'a>(first: &'a str, second: &'a str, area: &str) -> Result<Command<'a>, Refusal>
-    ensures { IsCommandOf (of_name (read_side first.now) (λ s. of_name (read_side second.now) (λ t.
-        of_operand (read_rect area.now) (λ cells. Compare s t cells)))) result }
+    ensures { IsReading (of_name (read_side first.now) (λ s. of_name (read_side second.now) (λ t.
+        of_operand (read_rect area.now) (λ cells. Ok (Compare s t (corners cells)))))) result }
 {
     let first = read_side(first)?;
     let second = read_side(second)?;
@@ -65,7 +67,7 @@ fn compare_of<'a>(first: &'a str, second: &'a str, area: &str) -> Result<Command
 
 /// `formula ADDR`.
 pub(crate) fn read_formula(operands: &str) -> Result<Command<'_>, Refusal>
-    ensures { IsCommandOf (formula_command operands.now) result }
+    ensures { IsReading (formula_command operands.now) result }
 {
     let at = Address::read(only_word(operands)?.as_bytes())?;
     Ok(Command::Formula { at })

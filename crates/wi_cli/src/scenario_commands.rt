@@ -1,7 +1,7 @@
 //! The commands of scenarios and sessions, as they are read.
 
 ghost use Rattle.wi_cli.specs.Inner.ScenarioCommands.{scenario_command, drop_command, base_command, use_command, as_command};
-ghost use Rattle.wi_cli.specs.Inner.Spelling.{IsCommandOf};
+ghost use Rattle.wi_cli.specs.Inner.Spelling.{IsReading};
 
 use crate::command::Command;
 use crate::names::{name_or_none, only_name, read_name};
@@ -11,7 +11,7 @@ use wi_values::Address;
 
 /// `scenario NAME ADDR CONTENT`, where CONTENT is all after the one space that follows ADDR, and may be empty.
 pub(crate) fn read_scenario(operands: &str) -> Result<Command<'_>, Refusal>
-    ensures { IsCommandOf (scenario_command operands.now) result }
+    ensures { IsReading (scenario_command operands.now) result }
 {
     let (word, others) = split_word(operands);
     let (address, content) = split_word(others);
@@ -22,7 +22,7 @@ pub(crate) fn read_scenario(operands: &str) -> Result<Command<'_>, Refusal>
 
 /// `drop NAME`.
 pub(crate) fn read_drop(operands: &str) -> Result<Command<'_>, Refusal>
-    ensures { IsCommandOf (drop_command operands.now) result }
+    ensures { IsReading (drop_command operands.now) result }
 {
     let name = only_name(operands)?;
     Ok(Command::Drop { name })
@@ -30,7 +30,7 @@ pub(crate) fn read_drop(operands: &str) -> Result<Command<'_>, Refusal>
 
 /// `base NAME OTHER`, and `base NAME`.
 pub(crate) fn read_base(operands: &str) -> Result<Command<'_>, Refusal>
-    ensures { IsCommandOf (base_command operands.now) result }
+    ensures { IsReading (base_command operands.now) result }
 {
     let (word, others) = split_word(operands);
     let name = read_name(word)?;
@@ -40,7 +40,7 @@ pub(crate) fn read_base(operands: &str) -> Result<Command<'_>, Refusal>
 
 /// `use NAME`, and `use`.
 pub(crate) fn read_use(operands: &str) -> Result<Command<'_>, Refusal>
-    ensures { IsCommandOf (use_command operands.now) result }
+    ensures { IsReading (use_command operands.now) result }
 {
     let name = name_or_none(operands)?;
     Ok(Command::Use { name })
@@ -48,7 +48,7 @@ pub(crate) fn read_use(operands: &str) -> Result<Command<'_>, Refusal>
 
 /// `as SESSION`.
 pub(crate) fn read_as(operands: &str) -> Result<Command<'_>, Refusal>
-    ensures { IsCommandOf (as_command operands.now) result }
+    ensures { IsReading (as_command operands.now) result }
 {
     let name = only_name(operands)?;
     Ok(Command::As { name })

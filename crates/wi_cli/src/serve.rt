@@ -1,8 +1,8 @@
 //! What a command is answered.
 
 ghost use Rattle.std.specs.Prelude.{◌≡◌, ◌++◌, List, ℕ, Some};
-ghost use Rattle.wi_cli.specs.Inner.Calls as spell;
-ghost use Rattle.wi_cli.specs.Inner.Spelling.{command_of, IsCommandOf};
+ghost use Rattle.wi_scenarios.specs.Commands.Command as table;
+ghost use Rattle.wi_cli.specs.Inner.Spelling.{command_of, IsRead};
 ghost use Rattle.wi_cli.specs.Inner.Told.{IsServed, Told};
 
 use crate::again::{forget, free_bytes, lacks_memory};
@@ -98,8 +98,8 @@ pub(crate) fn serve<C: Calculator>(
     out: &mut Vec<u8>,
     spare: &mut Vec<u8>,
 ) -> Reply
-    ensures { (spelled : spell.Call) → IsCommandOf spelled command.now
-        → Told (Some spelled) result book.old.state book.new.state out.new.items }
+    ensures { (named : table.Command) → IsRead named command.now
+        → Told (Some named) result book.old.state book.new.state out.new.items }
 {
     match command {
         Ok(command) => match execute_twice(command, book, out, spare) {

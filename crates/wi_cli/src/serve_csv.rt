@@ -1,9 +1,10 @@
 //! What a line with its data lines is answered.
 
-ghost use Rattle.std.specs.Prelude.{◌≡◌, [], List, ℕ, Some};
+ghost use Rattle.std.specs.Prelude.{◌≡◌, ◌+◌, [], List, ℕ, Option, Some, length};
 ghost use Rattle.wi_scenarios.specs.Answer.{ServesData};
-ghost use Rattle.wi_cli.specs.Inner.Calls as call;
-ghost use Rattle.wi_cli.specs.Inner.Calls.{IsCallStep};
+ghost use Rattle.wi_scenarios.specs.Commands.Operands.{Cell};
+ghost use Rattle.wi_scenarios.specs.Commands.Step.{IsImportStep};
+ghost use Rattle.wi_cli.specs.Inner.Operands.{read_any};
 ghost use Rattle.wi_cli.specs.Inner.Data.{wants, HoldsLines, command_of_csv, target_of, IsTarget};
 ghost use Rattle.wi_cli.specs.Inner.Told.{Told};
 
@@ -29,9 +30,10 @@ fn target_of(at: Result<Address, AddressFault>, missing: u32) -> Result<Address,
 
 /// Where the data lines of a line go, or why they are refused.
 fn target(csv: &CsvLine, data_lines: &DataLines) -> Result<Address, Refusal>
-    ensures { (lines : List (List ℕ)) → data_lines.now.wanted ≡ wants csv.now
-        → HoldsLines data_lines.now lines
-        → IsTarget (command_of_csv csv.now lines data_lines.now.missing)
+    ensures { (o : Option Cell) (lines : List (List ℕ)) → csv.now.at ≡ read_any o
+        → data_lines.now.wanted ≡ wants csv.now → HoldsLines data_lines.now lines
+        → length lines + data_lines.now.missing ≡ csv.now.lines
+        → IsTarget (command_of_csv csv.now o lines)
         csv.now.force data_lines.now.bytes.items result }
 {
     if !csv.is_text {
@@ -52,7 +54,7 @@ fn import_twice<C: Calculator>(
     force: bool,
     spare: &mut Vec<u8>,
 ) -> Result<(), Refusal>
-    ensures { ServesData (IsCallStep book.old.state (call.Csv force at text.now))
+    ensures { ServesData (IsImportStep book.old.state force at text.now)
         result book.old.state book.new.state }
 {
     let done = book.import(at, text, force);
@@ -71,9 +73,10 @@ pub(crate) fn serve_csv<C: Calculator>(
     data_lines: &DataLines,
     spare: &mut Vec<u8>,
 ) -> Reply
-    ensures { (lines : List (List ℕ)) → data_lines.now.wanted ≡ wants csv.now
-        → HoldsLines data_lines.now lines
-        → Told (Some (command_of_csv csv.now lines data_lines.now.missing))
+    ensures { (o : Option Cell) (lines : List (List ℕ)) → csv.now.at ≡ read_any o
+        → data_lines.now.wanted ≡ wants csv.now → HoldsLines data_lines.now lines
+        → length lines + data_lines.now.missing ≡ csv.now.lines
+        → Told (Some (command_of_csv csv.now o lines))
         result book.old.state book.new.state [] }
 {
     match target(csv, data_lines) {

@@ -1,7 +1,7 @@
 //! The command `table`, as it is read.
 
 ghost use Rattle.wi_cli.specs.Inner.TableCommand.{table_of_one, table_of_two, table_behind, table_command};
-ghost use Rattle.wi_cli.specs.Inner.Spelling.{IsCommandOf};
+ghost use Rattle.wi_cli.specs.Inner.Spelling.{IsReading};
 
 use crate::command::Command;
 use crate::operands::{line_fault, worse};
@@ -15,7 +15,7 @@ type CellRange = Result<Rect, AddressFault>;
 
 /// `table F R XCOLUMN` and `table F R XCOLUMN C YROW`.
 pub(crate) fn read_table(operands: &str) -> Result<Command<'_>, Refusal>
-    ensures { IsCommandOf (table_command operands.now) result }
+    ensures { IsReading (table_command operands.now) result }
 {
     let (formula_cell, others) = split_word(operands);
     let (input, others) = split_word(others);
@@ -35,7 +35,7 @@ fn table_behind(
     column: CellRange,
     more: &str,
 ) -> Result<Command<'_>, Refusal>
-    ensures { IsCommandOf (table_behind formula_cell input column more.now) result }
+    ensures { IsReading (table_behind formula_cell input column more.now) result }
 {
     if is_all_spaces(more.as_bytes()) {
         return table_of_one(formula_cell, input, column);
@@ -57,7 +57,7 @@ fn table_of_one<'a>(
     input: OneCell,
     column: CellRange,
 ) -> Result<Command<'a>, Refusal>
-    ensures { IsCommandOf (table_of_one formula_cell input column) result }
+    ensures { IsReading (table_of_one formula_cell input column) result }
 {
     let fault = line_fault(column, true);
     let fault = worse(formula_cell.err(), worse(input.err(), fault));
@@ -79,7 +79,7 @@ fn table_of_two<'a>(
     second: OneCell,
     row: CellRange,
 ) -> Result<Command<'a>, Refusal>
-    ensures { IsCommandOf (table_of_two formula_cell input column second row) result }
+    ensures { IsReading (table_of_two formula_cell input column second row) result }
 {
     let others = worse(second.err(), line_fault(row, false));
     let others = worse(line_fault(column, true), others);

@@ -1,12 +1,10 @@
--- The commands of lines are those that they had.
-use Rattle.wi_cli.proofs.Vocabulary.{◌≡◌, ℕ, suc, zero, ◌-◌, ◌<◌, Bool, true, false, not, ◌==◌, ◌||◌, nat_lt, cond, List, [], ◌∷◌, ◌++◌, length, map, take, filter, filter_map, Option, Some, None, option_map, Result, ◌⊎◌, inl, inr, if◌then◌else◌, refl, sym, ap, ap₂, ◌∙◌, subst, arith, list_all, cons_option, byte, is_utf8, nat_tests, IsUtf8-from_is_utf8, is_utf8-from_IsUtf8, or_parts, not-false, ltb-false, le-ltb, both_ways, nil_from_length, or-true, or-false, read_address, AddressFault, raw_lines, onto_first, without_lf, is_whole, max_line, is_space, Bytes, is_all_spaces, CsvLine, csv_line, csv_command, Block, lines_of, blocks, is_complete, is_comment, text_command, line_command, command_with, block_command, spelled_command, whole_lines, Cell, IsWritten, Command, Csv, Unknown, Unreadable, form, line_text, IsWithin, IsGood, Asks, is_passed_over, IsCommand, call_of, read_any, asked, line_block, Splits, none, a_line, cut_short, calls_of, HasCommands}
+-- Lines have the commands that they are read as.
+use Rattle.wi_cli.proofs.Vocabulary.{◌≡◌, ℕ, suc, zero, ◌<◌, Bool, true, false, not, ◌==◌, ◌||◌, nat_lt, cond, List, [], ◌∷◌, ◌++◌, length, take, filter, filter_map, Option, Some, None, ◌⊎◌, inl, inr, if◌then◌else◌, refl, sym, ap, ap₂, ◌∙◌, subst, arith, list_all, cons_option, byte, is_utf8, nat_tests, IsUtf8-from_is_utf8, is_utf8-from_IsUtf8, or_parts, not-false, ltb-false, le-ltb, both_ways, nil_from_length, or-true, or-false, raw_lines, onto_first, without_lf, is_whole, max_line, is_space, Bytes, is_all_spaces, CsvLine, csv_line, Block, lines_of, blocks, is_complete, is_comment, text_command, line_command, command_with, block_command, spelled_command, whole_lines, Cell, IsWritten, Command, Csv, Unknown, Unreadable, form, line_text, IsWithin, IsGood, Asks, is_passed_over, IsCommand, asked, line_block, Splits, none, a_line, cut_short, spelled_cell, blocks_that_count, commands_of, AreCommands}
 use Rattle.std.proofs.Common.{option_to_list}
-use Rattle.wi_scenarios.specs.declared.refusal.Refusal.TheVariants as refusal
-use Rattle.wi_cli.specs.Inner.Calls as call
 use Rattle.wi_cli.specs.Script.{none as no_commands, a_line as line_with, cut_short as line_cut}
 use Rattle.wi_cli.specs.Laws.{Takes}
-use Rattle.wi_cli.proofs.Ties.CsvLines.{IsRead, AsksOrNot, it_asks, it_asks_none, asks_or_not, takes, asks}
-use Rattle.wi_cli.proofs.Ties.Texts.{is_plain, same_form, Reads, spells, spells_none, none_written, reads}
+use Rattle.wi_cli.proofs.Ties.CsvLines.{IsCsvLine, AsksOrNot, it_asks, it_asks_none, asks_or_not, it_is_read, no_asks, takes, asks}
+use Rattle.wi_cli.proofs.Ties.Texts.{is_plain, said, Reads, spells, spells_none, reads}
 use Rattle.wi_cli.proofs.Ties.Splitting.{blocks_split}
 
 -- ---- a text
@@ -29,9 +27,9 @@ text_is text b e = ap (λ (v : Bool). if v then None else Some (spelled_command 
 -- ---- a line
 
 pub line_is : (line : Bytes) (b : Bool) → (nat_lt max_line (length (without_lf line)) || not (is_utf8 (line_text line))) ≡ b
-    → line_command (without_lf line) ≡ (if b then Some (call.Refused refusal.BadLine) else text_command (line_text line))
+    → line_command (without_lf line) ≡ (if b then Some (Unreadable) else text_command (line_text line))
 unfolding line_command
-line_is line b e = ap (λ (v : Bool). if v then Some (call.Refused refusal.BadLine) else text_command (line_text line)) e
+line_is line b e = ap (λ (v : Bool). if v then Some (Unreadable) else text_command (line_text line)) e
 
 pub good : (line : Bytes) → (nat_lt max_line (length (without_lf line)) || not (is_utf8 (line_text line))) ≡ false → IsGood line
 good line e = (ltb-false _ _ (or_parts _ _ e).0, IsUtf8-from_is_utf8 (line_text line) (not-false _ (or_parts _ _ e).1))
@@ -55,60 +53,62 @@ as_command line taken c p g h e = (g, h, sym e)
 pub plain_line : (line : Bytes) (taken : List Bytes) → csv_line (without_lf line) ≡ None → block_command (line_block line taken) ≡ line_command (without_lf line)
 plain_line line taken e = ap (λ (x : Option CsvLine). command_with x (line_block line taken)) e
 
--- one that does, by what it was read as
-pub csv_line_is : (line : Bytes) (taken : List Bytes) (force : Bool) (o : Option Cell) (n : ℕ) → IsRead force o n (csv_line (without_lf line)) → (b : Bool) → is_utf8 (line_text line) ≡ b
-    → block_command (line_block line taken) ≡ Some (if b then csv_command force (read_any o) taken (n - length taken) else call.Refused refusal.BadLine)
+-- one that does
+pub csv_line_is : (line : Bytes) (taken : List Bytes) (force : Bool) (o : Option Cell) (n : ℕ) → IsCsvLine force o n (csv_line (without_lf line)) → (b : Bool) → is_utf8 (line_text line) ≡ b
+    → block_command (line_block line taken) ≡ Some (if b then Csv force o n taken else Unreadable)
 csv_line_is line taken force o n r b e =
-    let many : asked line ≡ n = ap lines_of r.1 in
     ap (λ (x : Option CsvLine). command_with x (line_block line taken)) r.1
-    ∙ ap (λ (v : Bool). Some (if v then csv_command force (read_address r.0) taken (asked line - length taken) else call.Refused refusal.BadLine)) e
-    ∙ ap₂ (λ (a : Result ℕ AddressFault) (k : ℕ). Some (if b then csv_command force a taken (k - length taken) else call.Refused refusal.BadLine)) r.2 many
-
--- a line with what it takes has a command by the new reading, which is the one that it had
-abbrev pub HasCommand : Bytes → List Bytes → Type 0
-HasCommand line taken = (o : Option Command) × IsCommand line taken o × (block_command (line_block line taken) ≡ option_map call_of o)
+    ∙ ap (λ (v : Bool). Some (if v then Csv force (spelled_cell r.0) n taken else Unreadable)) e
+    ∙ ap (λ (c : Option Cell). Some (if b then Csv force c n taken else Unreadable)) r.2
 
 module _ (line : Bytes) (taken : List Bytes) where
+  -- the line with what it takes has the command that it is read as
+  abbrev pub HasCommand : Type 0
+  HasCommand = IsCommand line taken (block_command (line_block line taken))
+
+  is_so : (o : Option Command) → IsCommand line taken o → block_command (line_block line taken) ≡ o → HasCommand
+  is_so o h e = subst (λ (p : Option Command). IsCommand line taken p) (sym e) h
+
   -- a line that asks for data lines
-  csv_has : (force : Bool) (o : Option Cell) (n : ℕ) → IsWithin line → IsWritten (line_text line) (form (Csv force o n [])) → IsRead force o n (csv_line (without_lf line)) → HasCommand line taken
-  csv_has force o n within h r = by (is_utf8 (line_text line)) refl
+  csv_has : (force : Bool) (o : Option Cell) (n : ℕ) → IsWithin line → IsWritten (line_text line) (form (Csv force o n [])) → HasCommand
+  csv_has force o n within h = by (is_utf8 (line_text line)) refl (it_is_read line force o n within h)
     where
-      by : (b : Bool) → is_utf8 (line_text line) ≡ b → HasCommand line taken
-      by true e = (Some (Csv force o n taken), ((within, IsUtf8-from_is_utf8 (line_text line) e), h, refl), csv_line_is line taken force o n r true e)
-      by false e = (Some Unreadable, (λ g. both_ways _ e (is_utf8-from_IsUtf8 (line_text line) g.1)), csv_line_is line taken force o n r false e)
+      by : (b : Bool) → is_utf8 (line_text line) ≡ b → IsCsvLine force o n (csv_line (without_lf line)) → HasCommand
+      by true e r = is_so (Some (Csv force o n taken)) ((within, IsUtf8-from_is_utf8 (line_text line) e), h, refl) (csv_line_is line taken force o n r true e)
+      by false e r = is_so (Some Unreadable) (λ g. both_ways _ e (is_utf8-from_IsUtf8 (line_text line) g.1)) (csv_line_is line taken force o n r false e)
 
-  module _ (no_csv : (force : Bool) (o : Option Cell) (n : ℕ) → IsWithin line → IsWritten (line_text line) (form (Csv force o n [])) → ⊥)
-      (plain : csv_line (without_lf line) ≡ None) (fits : taken ≡ []) where
-    no_form : (g : IsGood line) → is_passed_over (line_text line) ≡ false → ((c : Command) → is_plain c ≡ true → IsWritten (line_text line) (form c) → ⊥) → (c : Command) → IsWritten (line_text line) (form c) → ⊥
-    no_form g p plain_none (Csv force o n lines) h = no_csv force o n g.0 h
-    no_form g p plain_none Unknown h = both_ways _ p (spaces_pass (line_text line) h)
-    no_form g p plain_none Unreadable h = both_ways _ p (spaces_pass (line_text line) h)
-    no_form g p plain_none c h = plain_none c refl h
+  module _ (plain : csv_line (without_lf line) ≡ None) (fits : taken ≡ []) where
+    no_form : IsGood line → is_passed_over (line_text line) ≡ false → spelled_command (line_text line) ≡ Unknown → (c : Command) → IsWritten (line_text line) (form c) → ⊥
+    no_form g p unread (Csv force o n lines) h = no_asks line plain force o n g.0 h
+    no_form g p unread Unknown h = both_ways _ p (spaces_pass (line_text line) h)
+    no_form g p unread Unreadable h = both_ways _ p (spaces_pass (line_text line) h)
+    no_form g p unread c h = both_ways (is_plain Unknown) refl (ap is_plain (sym unread ∙ (said (line_text line) c refl h).same))
 
-    text_has : IsGood line → is_passed_over (line_text line) ≡ false → block_command (line_block line taken) ≡ Some (spelled_command (line_text line)) → Reads (line_text line) → HasCommand line taken
-    text_has g p e (spells c is h) = (Some c, as_command line taken c is g h fits, e ∙ ap (λ (x : call.Call). Some x) (same_form (line_text line) c is h))
-    text_has g p e (spells_none nothing bad) = (Some Unknown, (g, p, no_form g p (none_written (line_text line) nothing)), e ∙ ap (λ (x : call.Call). Some x) bad)
+    text_has : IsGood line → is_passed_over (line_text line) ≡ false → block_command (line_block line taken) ≡ Some (spelled_command (line_text line)) → Reads (line_text line) → HasCommand
+    text_has g p e (spells c is h same) = is_so (Some c) (as_command line taken c is g h fits) (e ∙ ap (λ (x : Command). Some x) same)
+    text_has g p e (spells_none unread) = is_so (Some Unknown) (g, p, no_form g p unread) (e ∙ ap (λ (x : Command). Some x) unread)
 
-    by_line : (b : Bool) → (nat_lt max_line (length (without_lf line)) || not (is_utf8 (line_text line))) ≡ b → (p : Bool) → is_passed_over (line_text line) ≡ p → HasCommand line taken
-    by_line true e p f = (Some Unreadable, not_good line e, plain_line line taken plain ∙ line_is line true e)
-    by_line false e true f = (None, (good line e, f), plain_line line taken plain ∙ line_is line false e ∙ text_is (line_text line) true f)
+    by_line : (b : Bool) → (nat_lt max_line (length (without_lf line)) || not (is_utf8 (line_text line))) ≡ b → (p : Bool) → is_passed_over (line_text line) ≡ p → HasCommand
+    by_line true e p f = is_so (Some Unreadable) (not_good line e) (plain_line line taken plain ∙ line_is line true e)
+    by_line false e true f = is_so None (good line e, f) (plain_line line taken plain ∙ line_is line false e ∙ text_is (line_text line) true f)
     by_line false e false f = text_has (good line e) f (plain_line line taken plain ∙ line_is line false e ∙ text_is (line_text line) false f) (reads (line_text line))
 
-    line_has : HasCommand line taken
-    line_has = by_line (nat_lt max_line (length (without_lf line)) || not (is_utf8 (line_text line))) refl (is_passed_over (line_text line)) refl
-
-  pub has_command : (csv_line (without_lf line) ≡ None → taken ≡ []) → HasCommand line taken
+  has_command : (csv_line (without_lf line) ≡ None → taken ≡ []) → HasCommand
   has_command fits = by (asks_or_not line)
     where
-      by : AsksOrNot line → HasCommand line taken
-      by (it_asks force o n within h r) = csv_has force o n within h r
-      by (it_asks_none nothing e) = line_has nothing e (fits e)
+      by : AsksOrNot line → HasCommand
+      by (it_asks force o n within h) = csv_has force o n within h
+      by (it_asks_none e) = by_line e (fits e) (nat_lt max_line (length (without_lf line)) || not (is_utf8 (line_text line))) refl (is_passed_over (line_text line)) refl
 
 -- ---- lines
 
-pub onto_calls : (o : Option Command) (cs : List Command) → cons_option (option_map call_of o) (map call_of cs) ≡ map call_of (option_to_list o ++ cs)
-onto_calls None cs = refl
-onto_calls (Some c) cs = refl
+pub onto : (o : Option Command) (cs : List Command) → cons_option o cs ≡ option_to_list o ++ cs
+onto None cs = refl
+onto (Some c) cs = refl
+
+pub alone : (o : Option Command) → cons_option o [] ≡ option_to_list o
+alone None = refl
+alone (Some c) = refl
 
 taken_is : (line : Bytes) (taken : List Bytes) → Takes line (length taken) → Asks line (length taken) ⊎ ((taken ≡ []) × ((n : ℕ) → Asks line n → ⊥))
 taken_is line taken (inl h) = inl h
@@ -122,44 +122,35 @@ none_short line taken h plain =
     let nothing : asked line ≡ 0 = ap (λ (x : Option CsvLine). lines_of x) plain in
     absurd (omega (arith, h, nothing))
 
-pub has_all : (lines : List Bytes) (bs : List Block) → Splits lines bs → HasCommands true lines (filter_map block_command bs)
-has_all lines bs none = ([], no_commands, refl)
-has_all lines bs (a_line line taken more cs same rest) =
-    let k = has_command line taken (none_taken line taken same) in
-    let r = has_all more cs rest in
-    let some : Takes line (length taken) = subst (λ (n : ℕ). Takes line n) same (takes line) in
-    (option_to_list k.0 ++ r.0, line_with line taken more k.0 r.0 (taken_is line taken some) k.1 r.1, ap₂ cons_option k.2 r.2 ∙ onto_calls k.0 r.0)
-has_all lines bs (cut_short line taken short) =
-    let k = has_command line taken (none_short line taken short) in
-    (option_to_list k.0, line_cut line taken (asked line) k.0 (asks line (length taken) short) short k.1, last k.0 k.2)
-  where
-    last : (o : Option Command) → block_command (line_block line taken) ≡ option_map call_of o → cons_option (block_command (line_block line taken)) [] ≡ map call_of (option_to_list o)
-    last None e = ap (λ (x : Option call.Call). cons_option x []) e
-    last (Some c) e = ap (λ (x : Option call.Call). cons_option x []) e
-
 pub complete : (line : Bytes) (taken : List Bytes) → asked line ≡ length taken → is_complete (line_block line taken) ≡ true
 complete line taken e = grind (arith, nat_tests)
 
 pub not_complete : (line : Bytes) (taken : List Bytes) → length taken < asked line → is_complete (line_block line taken) ≡ false
 not_complete line taken h = grind (arith, nat_tests)
 
-pub has_whole : (lines : List Bytes) (bs : List Block) → Splits lines bs → HasCommands false lines (filter_map block_command (filter is_complete bs))
-has_whole lines bs none = ([], no_commands, refl)
-has_whole lines bs (a_line line taken more cs same rest) =
-    let k = has_command line taken (none_taken line taken same) in
-    let r = has_whole more cs rest in
-    let some : Takes line (length taken) = subst (λ (n : ℕ). Takes line n) same (takes line) in (
-      option_to_list k.0 ++ r.0,
-      line_with line taken more k.0 r.0 (taken_is line taken some) k.1 r.1,
-      ap (λ (b : Bool). filter_map block_command (cond b (line_block line taken ∷ filter is_complete cs) (filter is_complete cs))) (complete line taken same)
-          ∙ ap₂ cons_option k.2 r.2 ∙ onto_calls k.0 r.0,
-    )
-has_whole lines bs (cut_short line taken short) =
-    let k = has_command line taken (none_short line taken short) in (
-      [],
-      line_cut line taken (asked line) k.0 (asks line (length taken) short) short k.1,
-      ap (λ (b : Bool). filter_map block_command (cond b (line_block line taken ∷ []) [])) (not_complete line taken short),
-    )
+pub kept_one : (ended : Bool) (b : Block) (bs : List Block) → is_complete b ≡ true → blocks_that_count ended (b ∷ bs) ≡ b ∷ blocks_that_count ended bs
+kept_one true b bs e = refl
+kept_one false b bs e = ap (λ (v : Bool). cond v (b ∷ filter is_complete bs) (filter is_complete bs)) e
+
+abbrev commands_in : Bool → List Block → List Command
+commands_in ended bs = filter_map block_command (blocks_that_count ended bs)
+
+has_blocks : (ended : Bool) (lines : List Bytes) (bs : List Block) → Splits lines bs → AreCommands ended lines (commands_in ended bs)
+has_blocks true lines bs none = no_commands
+has_blocks false lines bs none = no_commands
+has_blocks ended lines bs (a_line line taken more cs same rest) =
+    let o : Option Command = block_command (line_block line taken) in
+    let some : Takes line (length taken) = subst (λ (n : ℕ). Takes line n) same (takes line) in
+    let as_list : commands_in ended (line_block line taken ∷ cs) ≡ option_to_list (block_command (line_block line taken)) ++ commands_in ended cs =
+    ap (filter_map block_command) (kept_one ended (line_block line taken) cs (complete line taken same)) ∙ onto (block_command (line_block line taken)) (commands_in ended cs) in
+    subst (λ (ds : List Command). AreCommands ended (line ∷ taken ++ more) ds) (sym as_list)
+    (line_with line taken more (block_command (line_block line taken)) (commands_in ended cs) (taken_is line taken some) (has_command line taken (none_taken line taken same)) (has_blocks ended more cs rest))
+has_blocks true lines bs (cut_short line taken short) =
+    subst (λ (ds : List Command). AreCommands true (line ∷ taken) ds) (sym (alone (block_command (line_block line taken))))
+    (line_cut line taken (asked line) (block_command (line_block line taken)) (asks line (length taken) short) short (has_command line taken (none_short line taken short)))
+has_blocks false lines bs (cut_short line taken short) =
+    subst (λ (ds : List Command). AreCommands false (line ∷ taken) ds) (sym (ap (λ (b : Bool). filter_map block_command (cond b (line_block line taken ∷ []) [])) (not_complete line taken short)))
+    (line_cut line taken (asked line) (block_command (line_block line taken)) (asks line (length taken) short) short (has_command line taken (none_short line taken short)))
 
 -- ---- of the lines of bytes only the last may lack its LF
 
@@ -222,6 +213,5 @@ taken_whole n bytes = whole_is (take n (raw_lines bytes)) (take_whole n (raw_lin
 
 -- ---- the commands of a script
 
-pub has_commands : (ended : Bool) (lines : List Bytes) → HasCommands ended lines (calls_of ended lines)
-has_commands true lines = has_all lines (blocks lines) (blocks_split lines)
-has_commands false lines = has_whole lines (blocks lines) (blocks_split lines)
+pub has_commands : (ended : Bool) (lines : List Bytes) → AreCommands ended lines (commands_of ended lines)
+has_commands ended lines = has_blocks ended lines (blocks lines) (blocks_split lines)

@@ -1,5 +1,6 @@
--- The words that spell a rectangle, and what they were read as.
-use Rattle.wi_cli.proofs.Vocabulary.{◌≡◌, ℕ, suc, ◌+◌, ◌<◌, Bool, true, false, ◌&&◌, ◌||◌, not, nat_lt, ◌==◌, cond, [], ◌∷◌, ◌++◌, take, drop, length, get_or, Some, None, Result, Ok, Err, refl, sym, ap, ap₂, ◌∙◌, subst, arith, append_assoc, append-nil, length-append, codes, take-append_seam, nat_tests, list_all-append, split_at_first, passes_at_first, is_ascii_alphabetic, is_ascii_digit, list_all, prefix_len, position_or_len, byte, all_ascii_digits, and_parts, rect_of, read_address, read_rect, corners, AddressFault, Shape, Cell, Corners, is_outside, address, IsAddr, addr, IsRect, a_cell, two_cells, Bytes, read_by, read_area, SameRect}
+-- The words that spell a rectangle, and as which they are read.
+use Rattle.wi_cli.proofs.Vocabulary.{◌≡◌, ℕ, suc, ◌+◌, ◌<◌, Bool, true, false, ◌||◌, not, nat_lt, ◌==◌, cond, [], ◌∷◌, ◌++◌, take, drop, length, get_or, Option, Some, None, Result, Ok, Err, refl, sym, ap, ap₂, ◌∙◌, subst, arith, append_assoc, append-nil, length-append, codes, take-append_seam, nat_tests, list_all-append, split_at_first, passes_at_first, is_ascii_alphabetic, is_ascii_digit, list_all, prefix_len, position_or_len, byte, all_ascii_digits, and_parts, rect_of, read_rect, corners, AddressFault, Shape, Cell, Corners, is_outside, address, IsAddr, addr, IsRect, a_cell, two_cells, Bytes, both, spelled_cell, spelled_corners, spelled_rect, read_by, read_any, read_any_area, SameRect, ◌&&◌}
+use Rattle.std.specs.List.{position}
 use Rattle.std.proofs.Common.{eqb-true}
 use Rattle.wi_values.specs.AddressReading.{read_corners as read_at_colon}
 use Rattle.wi_values.specs.declared.address.AddressFault.TheVariants.{Outside}
@@ -45,25 +46,18 @@ scan (c ∷ cs) rest h e =
 whole : (cs : Bytes) → list_all no_colon cs ≡ true → prefix_len no_colon cs ≡ length cs
 whole cs h = ap (prefix_len no_colon) (sym (append-nil cs)) ∙ scan cs [] h refl
 
--- what a word was read as, by whether it has a colon
-by_colon : (word : Bytes) (b : Bool) → nat_lt (position_or_len is_colon word) (length word) ≡ b → read_rect word ≡ read_at_colon word (cond b (Some (position_or_len is_colon word)) None)
-unfolding read_rect
-by_colon word b e = ap (λ (v : Bool). read_at_colon word (cond v (Some (position_or_len is_colon word)) None)) e
+-- the corners of a word, by whether it has a colon
+by_colon : (word : Bytes) (b : Bool) → nat_lt (position_or_len is_colon word) (length word) ≡ b → spelled_rect word ≡ spelled_corners word (cond b (Some (position_or_len is_colon word)) None)
+unfolding spelled_rect
+by_colon word b e = ap (λ (v : Bool). spelled_corners word (cond v (Some (position_or_len is_colon word)) None)) e
 
 below : (n m : ℕ) → n ≡ m → nat_lt n m ≡ false
 below n m e = grind (arith, nat_tests)
 
-corners_by : (a b : Bool) (x y : ℕ) → corners (read_by a x) (read_by b y) ≡ read_by (a || b) (rect_of x y)
-corners_by true true x y = refl
-corners_by true false x y = refl
-corners_by false true x y = refl
-corners_by false false x y = refl
-
-one_cell : (word : Bytes) (c : Cell) → IsAddr word c → read_rect word ≡ read_area (c, c)
+one_cell : (word : Bytes) (c : Cell) → IsAddr word c → spelled_rect word ≡ Some (c, c)
 one_cell word c h =
-    let spelled = (same_addr word).spelled c h in
     by_colon word false (below _ _ (whole word (addr_plain word c h)))
-    ∙ ap (λ (r : Result ℕ AddressFault). corners r r) spelled ∙ corners_by (is_outside c) (is_outside c) (address c) (address c)
+    ∙ ap (λ (o : Option Cell). both o o) ((same_addr word).spelled c h)
 
 behind_colon : (v w : Bytes) → drop (length v + 1) (v ++ (58 ∷ w)) ≡ w
 behind_colon [] w = refl
@@ -77,45 +71,72 @@ is_longer v w =
     let some : length (58 ∷ w) ≡ suc (length w) = refl in
     grind (arith, nat_tests)
 
-two : (v w : Bytes) (c d : Cell) → IsAddr v c → IsAddr w d → read_rect (v ++ (58 ∷ w)) ≡ read_area (c, d)
+two : (v w : Bytes) (c d : Cell) → IsAddr v c → IsAddr w d → spelled_rect (v ++ (58 ∷ w)) ≡ Some (c, d)
 two v w c d h k =
     let text : Bytes = v ++ (58 ∷ w) in
     let place : position_or_len is_colon text ≡ length v = scan v (58 ∷ w) (addr_plain v c h) refl in
     let long : nat_lt (position_or_len is_colon text) (length text) ≡ true = ap (λ (n : ℕ). nat_lt n (length text)) place ∙ is_longer v w in
     by_colon text true long
-    ∙ ap (λ (n : ℕ). corners (read_address (take n text)) (read_address (drop (n + 1) text))) place
-    ∙ ap₂ (λ (x y : Bytes). corners (read_address x) (read_address y)) (take-append_seam v (58 ∷ w)) (behind_colon v w)
-    ∙ ap₂ corners ((same_addr v).spelled c h) ((same_addr w).spelled d k) ∙ corners_by (is_outside c) (is_outside d) (address c) (address d)
+    ∙ ap (λ (n : ℕ). both (spelled_cell (take n text)) (spelled_cell (drop (n + 1) text))) place
+    ∙ ap₂ (λ (x y : Bytes). both (spelled_cell x) (spelled_cell y)) (take-append_seam v (58 ∷ w)) (behind_colon v w)
+    ∙ ap₂ (λ (o p : Option Cell). both o p) ((same_addr v).spelled c h) ((same_addr w).spelled d k)
 
-pub spelled : (word : Bytes) (r : Corners) → IsRect word r → read_rect word ≡ read_area r
+pub spelled : (word : Bytes) (r : Corners) → IsRect word r → spelled_rect word ≡ Some r
 spelled word r (a_cell w c h) = one_cell w c h
-spelled word r (two_cells v w c d h k) = ap read_rect (append_assoc v (58 ∷ []) w) ∙ two v w c d h k
+spelled word r (two_cells v w c d h k) = ap spelled_rect (append_assoc v (58 ∷ []) w) ∙ two v w c d h k
 
 -- ---- a word that is read
+
+both_cells : (o p : Option Cell) (r : Corners) → both o p ≡ Some r → (o ≡ Some r.0) × (p ≡ Some r.1)
+both_cells (Some c) (Some d) r e = (cc, cc)
+both_cells (Some c) None r e = cc
+both_cells None p r e = cc
+
+spells_at : (word : Bytes) (r : Corners) → spelled_rect word ≡ Some r → (b : Bool) → nat_lt (position_or_len is_colon word) (length word) ≡ b → IsRect word r
+spells_at word r h false e =
+    let k = both_cells _ _ r (sym (by_colon word false e) ∙ h) in
+    let one : r.0 ≡ r.1 = let same : ◌≡◌ {A = Option Cell} (Some r.0) (Some r.1) = sym k.0 ∙ k.1 in cc in
+    subst (λ (d : Cell). IsRect word (r.0, d)) one (a_cell word r.0 ((same_addr word).spells r.0 k.0))
+spells_at word r h true e =
+    let n : ℕ = position_or_len is_colon word in
+    let front : Bytes = take n word in
+    let back : Bytes = drop (n + 1) word in
+    let inside : n < length word = grind (arith, nat_tests) in
+    let k = both_cells (spelled_cell front) (spelled_cell back) r (sym (by_colon word true e) ∙ h) in
+    let colon : get_or word n 0 ≡ 58 = eqb-true _ _ (passes_at_first is_colon word 0 inside) in
+    let parts : (front ++ codes ":") ++ back ≡ word =
+    append_assoc front (58 ∷ []) back ∙ ap (λ (b : ℕ). front ++ (b ∷ back)) (sym colon) ∙ sym (split_at_first is_colon word 0 inside) in
+    subst (λ (w : Bytes). IsRect w r) parts (two_cells front back r.0 r.1 ((same_addr front).spells r.0 k.0) ((same_addr back).spells r.1 k.1))
+
+pub spells : (word : Bytes) (r : Corners) → spelled_rect word ≡ Some r → IsRect word r
+spells word r h = spells_at word r h (nat_lt (position_or_len is_colon word) (length word)) refl
+
+-- ---- as what it is read
 
 bad_second : (r : Result ℕ AddressFault) → corners r (Err Shape) ≡ Err Shape
 bad_second (Ok a) = refl
 bad_second (Err Shape) = refl
 bad_second (Err Outside) = refl
 
-reads_at : (word : Bytes) → (read_rect word ≡ Err Shape → ⊥) → (b : Bool) → nat_lt (position_or_len is_colon word) (length word) ≡ b → (r : Corners) × IsRect word r
-reads_at word h false e =
-    let c = (same_addr word).read (λ k. h (by_colon word false e ∙ ap (λ (r : Result ℕ AddressFault). corners r r) k)) in
-    ((c.0, c.0), a_cell word c.0 c.1)
-reads_at word h true e =
-    let n : ℕ = position_or_len is_colon word in
-    let front : Bytes = take n word in
-    let back : Bytes = drop (n + 1) word in
-    let inside : n < length word = grind (arith, nat_tests) in
-    let c = (same_addr front).read (λ k. h (by_colon word true e ∙ ap (λ (r : Result ℕ AddressFault). corners r (read_address back)) k)) in
-    let d = (same_addr back).read (λ k. h (by_colon word true e ∙ ap (corners (read_address front)) k ∙ bad_second (read_address front))) in
-    let colon : get_or word n 0 ≡ 58 = eqb-true _ _ (passes_at_first is_colon word 0 inside) in
-    let parts : (front ++ codes ":") ++ back ≡ word =
-    append_assoc front (58 ∷ []) back ∙ ap (λ (b : ℕ). front ++ (b ∷ back)) (sym colon) ∙ sym (split_at_first is_colon word 0 inside) in
-    ((c.0, d.0), subst (λ (w : Bytes). IsRect w (c.0, d.0)) parts (two_cells front back c.0 d.0 c.1 d.1))
+corners_by : (a b : Bool) (x y : ℕ) → corners (read_by a x) (read_by b y) ≡ read_by (a || b) (rect_of x y)
+corners_by true true x y = refl
+corners_by true false x y = refl
+corners_by false true x y = refl
+corners_by false false x y = refl
 
-pub read : (word : Bytes) → (read_rect word ≡ Err Shape → ⊥) → (r : Corners) × IsRect word r
-read word h = reads_at word h (nat_lt (position_or_len is_colon word) (length word)) refl
+corners_are : (o p : Option Cell) → corners (read_any o) (read_any p) ≡ read_any_area (both o p)
+corners_are None p = refl
+corners_are (Some c) None = bad_second (read_any (Some c))
+corners_are (Some c) (Some d) = corners_by (is_outside c) (is_outside d) (address c) (address d)
+
+by_place : (word : Bytes) (at : Option ℕ) → read_at_colon word at ≡ read_any_area (spelled_corners word at)
+by_place word None = ap₂ corners ((same_addr word).read) ((same_addr word).read) ∙ corners_are (spelled_cell word) (spelled_cell word)
+by_place word (Some k) =
+    ap₂ corners ((same_addr (take k word)).read) ((same_addr (drop (k + 1) word)).read) ∙ corners_are (spelled_cell (take k word)) (spelled_cell (drop (k + 1) word))
+
+pub read : (word : Bytes) → read_rect word ≡ read_any_area (spelled_rect word)
+unfolding read_rect spelled_rect
+read word = by_place word (position is_colon word)
 
 pub same_rect : (word : Bytes) → SameRect word
-same_rect word = record { spelled = spelled word; read = read word }
+same_rect word = record { spelled = spelled word; spells = spells word; read = read word }

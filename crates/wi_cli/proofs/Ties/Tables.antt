@@ -1,13 +1,13 @@
--- The step of `table`, with one input and with two.
-use Rattle.wi_cli.proofs.Vocabulary.{◌≡◌, ◌<◌, ◌*◌, ℕ, min, max, Bool, true, false, not, ◌||◌, ◌&&◌, ◌==◌, nat_lt, List, [], ◌∷◌, Option, Some, None, Result, if◌then◌else◌, refl, sym, ap, ◌∙◌, subst, arith, nat_tests, list_any, result_err, or_parts, both_ways, or-false, Area, columns, row_of, column_of, size_of, AddressFault, Shape, row_of_place, column_of_place, State, max_area, is_column, is_row, of_operand, worse, line_fault, unless_refused, table_of_one, table_of_two, Cell, Corners, is_outside, address, area, Command, Table, BadCommand, Answer, read_by, read_cell, read_area, call_of, Err}
+-- As what `table` is read, with one input and with two, and its step.
+use Rattle.wi_cli.proofs.Vocabulary.{◌≡◌, ◌<◌, ◌*◌, ℕ, min, max, Bool, true, false, not, ◌||◌, ◌&&◌, ◌==◌, nat_lt, List, [], ◌∷◌, Option, Some, None, Result, if◌then◌else◌, refl, sym, ap, ◌∙◌, subst, arith, nat_tests, list_any, result_err, or_parts, both_ways, or-false, Area, columns, row_of, column_of, size_of, AddressFault, Shape, row_of_place, column_of_place, State, max_area, is_column, is_row, of_operand, worse, line_fault, unless_refused, table_of_one, table_of_two, Cell, Corners, is_outside, address, area, Command, Table, Answer, read_by, Ok, ap₂, ◌++◌, or-true, Reading, IsReadAs, IsStep, placed}
 use Rattle.wi_values.specs.declared.address.AddressFault.TheVariants.{Outside as AtOutside}
 use Rattle.wi_scenarios.specs.declared.refusal.Refusal.TheVariants as refusal
-use Rattle.wi_cli.specs.Inner.Calls as call
+use Rattle.wi_scenarios.specs.Commands.Operands.{cell, corners}
 use Rattle.wi_scenarios.specs.Inner.Placed.{IsTablePlaced}
 use Rattle.wi_scenarios.proofs.OperandLemmas.{placed_again, spanned_again}
 use Rattle.wi_scenarios.proofs.TableSteps.{table_answer, tabled, table_step, table_by}
-use Rattle.wi_cli.proofs.Ties.Looks.{once}
-use Rattle.wi_cli.proofs.Ties.CallAnswers.{HasStep, same_answers}
+use Rattle.wi_scenarios.proofs.StepLemmas.{no_other}
+use Rattle.wi_cli.proofs.Ties.Cells.{lies_out, read_cell, read_area, inside}
 
 -- ---- faults of operands, one after another
 
@@ -21,7 +21,7 @@ is_out None = false
 is_out (Some Shape) = false
 is_out (Some AtOutside) = true
 
-abbrev worst : List (Option AddressFault) → Option AddressFault
+abbrev pub worst : List (Option AddressFault) → Option AddressFault
 worst [] = None
 worst (o ∷ os) = worse o (worst os)
 
@@ -73,10 +73,44 @@ line_out : (is_line : Area → Bool) (b : Bool) (a : Area) → is_out (line_faul
 line_out is_line true a = refl
 line_out is_line false a = shape_out (is_line a)
 
+-- a table of these operands, by the worst of their faults
+abbrev pub one_faults : Result ℕ AddressFault → Result ℕ AddressFault → Result Area AddressFault → List (Option AddressFault)
+one_faults f r xs = result_err f ∷ result_err r ∷ line_fault is_column xs ∷ []
+
+pub one_as : (f r : Result ℕ AddressFault) (xs : Result Area AddressFault) (o : Option AddressFault) → worst (one_faults f r xs) ≡ o
+    → table_of_one f r xs ≡ unless_refused o (of_operand f (λ f. of_operand r (λ r. of_operand xs (λ xs. Ok (Table (cell f) (cell r) (corners xs) None)))))
+one_as f r xs o e =
+    let command : Reading = of_operand f (λ f. of_operand r (λ r. of_operand xs (λ xs. Ok (Table (cell f) (cell r) (corners xs) None)))) in
+    ap (λ (y : Option AddressFault). unless_refused (worse (result_err f) (worse (result_err r) y)) command) (last_one (line_fault is_column xs))
+    ∙ ap (λ (w : Option AddressFault). unless_refused w command) e
+
+abbrev pub two_faults : Result ℕ AddressFault → Result ℕ AddressFault → Result Area AddressFault → Result ℕ AddressFault → Result Area AddressFault → List (Option AddressFault)
+two_faults f r xs c ys = result_err f ∷ result_err r ∷ line_fault is_column xs ∷ result_err c ∷ line_fault is_row ys ∷ []
+
+pub two_as : (f r : Result ℕ AddressFault) (xs : Result Area AddressFault) (c : Result ℕ AddressFault) (ys : Result Area AddressFault) (o : Option AddressFault) → worst (two_faults f r xs c ys) ≡ o
+    → table_of_two f r xs c ys
+    ≡ unless_refused o (of_operand f (λ f. of_operand r (λ r. of_operand xs (λ xs. of_operand c (λ c. of_operand ys (λ ys. Ok (Table (cell f) (cell r) (corners xs) (Some (cell c, corners ys)))))))))
+two_as f r xs c ys o e =
+    let command : Reading = of_operand f (λ f. of_operand r (λ r. of_operand xs (λ xs. of_operand c (λ c. of_operand ys (λ ys. Ok (Table (cell f) (cell r) (corners xs) (Some (cell c, corners ys)))))))) in
+    ap (λ (y : Option AddressFault). unless_refused (worse (result_err f) (worse (result_err r) (worse (line_fault is_column xs) (worse (result_err c) y)))) command) (last_one (line_fault is_row ys))
+    ∙ ap (λ (w : Option AddressFault). unless_refused w command) e
+
+-- one of these has the wrong shape
+pub has_shape : (front back : List (Option AddressFault)) → worst (front ++ (Some Shape ∷ back)) ≡ Some Shape
+has_shape front back = shape_first (front ++ (Some Shape ∷ back)) (by front)
+  where
+    by : (os : List (Option AddressFault)) → list_any is_shape (os ++ (Some Shape ∷ back)) ≡ true
+    by [] = refl
+    by (o ∷ os) = ap (λ (b : Bool). is_shape o || b) (by os) ∙ or-true (is_shape o)
+
 -- ---- columns and rows
 
-pub inside : (c : Cell) → is_outside c ≡ false → c.column < columns
-inside c e = grind (arith, nat_tests)
+-- a number of cells, as a product
+once : (n : ℕ) → n ≡ n * 1
+once n = omega arith
+
+abbrev pub is_large : Corners → Bool
+is_large r = nat_lt max_area (size_of (area r))
 
 -- the row and the column of a cell, and whether two columns are one
 min_max : (a b : ℕ) → (min a b == max a b) ≡ (a == b)
@@ -106,11 +140,6 @@ row_is ys ey =
     let high : row_of (area ys).last ≡ max ys.0.row ys.1.row = row_of_place _ _ (rw (c, d) (omega arith)) ∙ rw (e, f) refl in
     ap (λ (n : ℕ). n == row_of (area ys).last) low ∙ ap (λ (n : ℕ). min ys.0.row ys.1.row == n) high ∙ min_max ys.0.row ys.1.row
 
-straight : (o e : Bool) → (not o && not e) ≡ false → o ≡ false → e ≡ true
-straight true e h k = absurd (both_ways true k refl)
-straight false true h k = refl
-straight false false h k = absurd (both_ways true h refl)
-
 -- none of five holds
 none_of : (a b c d e : Bool) → (a || (b || (c || (d || (e || false))))) ≡ false → (a ≡ false) × (b ≡ false) × (c ≡ false) × (d ≡ false) × (e ≡ false)
 none_of true b c d e h = absurd (both_ways true h refl)
@@ -119,40 +148,31 @@ none_of false false true d e h = absurd (both_ways true h refl)
 none_of false false false true e h = absurd (both_ways true h refl)
 none_of false false false false e h = (refl, refl, refl, refl, (or_parts e false h).0)
 
-answered_so : (s : State) (c : Command) (w : call.Call) (a : Answer) → call_of c ≡ w → call.IsCallStep s w a → call.IsCallStep s (call_of c) a
-answered_so s c w a e h = subst (λ (x : call.Call). call.IsCallStep s x a) (sym e) h
+-- ---- two inputs
 
--- ---- the step
-
-module _ (s : State) (f r : Cell) (xs : Corners) (c : Cell) (ys : Corners) where
-  abbrev pub table : Command
+module _ (f r : Cell) (xs : Corners) (c : Cell) (ys : Corners) where
+  abbrev table : Command
   table = Table f r xs (Some (c, ys))
 
-  abbrev pub outside_xs : Bool
-  outside_xs = is_outside xs.0 || is_outside xs.1
+  abbrev bent : Bool
+  bent = (not (lies_out xs) && not (xs.0.column == xs.1.column)) || (not (lies_out ys) && not (ys.0.row == ys.1.row))
 
-  abbrev pub outside_ys : Bool
-  outside_ys = is_outside ys.0 || is_outside ys.1
-
-  abbrev pub bent : Bool
-  bent = (not outside_xs && not (xs.0.column == xs.1.column)) || (not outside_ys && not (ys.0.row == ys.1.row))
-
-  abbrev pub out : Bool
-  out = is_outside f || (is_outside r || (outside_xs || (is_outside c || (outside_ys || false))))
+  abbrev out : Bool
+  out = is_outside f || (is_outside r || (lies_out xs || (is_outside c || (lies_out ys || false))))
 
   abbrev is_many : Bool
   is_many = nat_lt max_area (size_of (area xs) * (size_of (area ys) * 1))
 
   abbrev faults : List (Option AddressFault)
-  faults = result_err (read_cell f) ∷ result_err (read_cell r) ∷ line_fault is_column (read_area xs) ∷ result_err (read_cell c) ∷ line_fault is_row (read_area ys) ∷ []
+  faults = two_faults (read_cell f) (read_cell r) (read_area xs) (read_cell c) (read_area ys)
 
   shapes : list_any is_shape faults ≡ bent
   shapes =
       let a = cell_shape (is_outside f) (address f) in
       let b = cell_shape (is_outside r) (address r) in
-      let d = line_shape is_column outside_xs (xs.0.column == xs.1.column) (area xs) (column_is xs) in
+      let d = line_shape is_column (lies_out xs) (xs.0.column == xs.1.column) (area xs) (column_is xs) in
       let e = cell_shape (is_outside c) (address c) in
-      let g = line_shape is_row outside_ys (ys.0.row == ys.1.row) (area ys) (row_is ys) in
+      let g = line_shape is_row (lies_out ys) (ys.0.row == ys.1.row) (area ys) (row_is ys) in
       by _ _ _ _ _ _ _ a b d e g
     where
       by : (p q x y z u v : Bool) → p ≡ false → q ≡ false → x ≡ u → y ≡ false → z ≡ v → (p || (q || (x || (y || (z || false))))) ≡ (u || v)
@@ -163,8 +183,8 @@ module _ (s : State) (f r : Cell) (xs : Corners) (c : Cell) (ys : Corners) where
 
   outs : list_any is_out faults ≡ out
   outs =
-      by _ _ _ _ _ _ _ _ _ _ (cell_out (is_outside f) (address f)) (cell_out (is_outside r) (address r)) (line_out is_column outside_xs (area xs)) (cell_out (is_outside c) (address c))
-      (line_out is_row outside_ys (area ys))
+      by _ _ _ _ _ _ _ _ _ _ (cell_out (is_outside f) (address f)) (cell_out (is_outside r) (address r)) (line_out is_column (lies_out xs) (area xs)) (cell_out (is_outside c) (address c))
+      (line_out is_row (lies_out ys) (area ys))
     where
       by : (p q x y z p' q' x' y' z' : Bool) → p ≡ p' → q ≡ q' → x ≡ x' → y ≡ y' → z ≡ z' → (p || (q || (x || (y || (z || false))))) ≡ (p' || (q' || (x' || (y' || (z' || false)))))
       by p q x y z p' q' x' y' z' a b d e g =
@@ -172,163 +192,126 @@ module _ (s : State) (f r : Cell) (xs : Corners) (c : Cell) (ys : Corners) where
           ∙ ap (λ (k : Bool). p' || (q' || (k || (y || (z || false))))) d ∙ ap (λ (k : Bool). p' || (q' || (x' || (k || (z || false))))) e
           ∙ ap (λ (k : Bool). p' || (q' || (x' || (y' || (k || false))))) g
 
-  abbrev command : call.Call
+  abbrev command : Reading
   command =
-      of_operand (read_cell f) (λ f. of_operand (read_cell r) (λ r. of_operand (read_area xs) (λ xs. of_operand (read_cell c) (λ c. of_operand (read_area ys) (λ ys. call.Table f r xs (Some (c, ys)))))))
+      of_operand (read_cell f) (λ f. of_operand (read_cell r) (λ r. of_operand (read_area xs) (λ xs. of_operand (read_cell c) (λ c. of_operand (read_area ys) (λ ys. Ok (Table (cell f) (cell r) (corners xs) (Some (cell c, corners ys))))))))
 
-  call_is : (o : Option AddressFault) → worst faults ≡ o → call_of table ≡ unless_refused o command
-  call_is o e =
-      ap (λ (y : Option AddressFault). unless_refused (worse (result_err (read_cell f)) (worse (result_err (read_cell r)) (worse (line_fault is_column (read_area xs)) (worse (result_err (read_cell c)) y)))) command)
-      (last_one (line_fault is_row (read_area ys)))
-      ∙ ap (λ (w : Option AddressFault). unless_refused w command) e
+  abbrev reading : Reading
+  reading = table_of_two (read_cell f) (read_cell r) (read_area xs) (read_cell c) (read_area ys)
 
-  abbrev pub proper : call.Call
-  proper = call.Table (address f) (address r) (area xs) (Some (address c, area ys))
+  reading_is : (o : Option AddressFault) → worst faults ≡ o → reading ≡ unless_refused o command
+  reading_is o e = two_as (read_cell f) (read_cell r) (read_area xs) (read_cell c) (read_area ys) o e
 
-  -- its call, where nothing is outside
-  command_is : out ≡ false → command ≡ proper
+  -- it is of the sheet, where nothing is outside
+  command_is : out ≡ false → command ≡ Ok (placed table)
   command_is eo =
-      let k = none_of (is_outside f) (is_outside r) outside_xs (is_outside c) outside_ys eo in
+      let k = none_of (is_outside f) (is_outside r) (lies_out xs) (is_outside c) (lies_out ys) eo in
       by k.0 k.1 k.2 k.3 k.4
     where
-      by : is_outside f ≡ false → is_outside r ≡ false → outside_xs ≡ false → is_outside c ≡ false → outside_ys ≡ false → command ≡ proper
+      by : is_outside f ≡ false → is_outside r ≡ false → lies_out xs ≡ false → is_outside c ≡ false → lies_out ys ≡ false → command ≡ Ok (placed table)
       by ef er ex ec ey = rw (ef, er, ex, ec, ey) refl
 
-  -- its operands are of the sheet
-  all_placed : out ≡ false → IsTablePlaced (address f) (address r) (area xs) (Some (address c, area ys))
-  all_placed eo =
-      let k = none_of (is_outside f) (is_outside r) outside_xs (is_outside c) outside_ys eo in
-      record { formula_cell = placed_again f k.0; input = placed_again r k.1; column = spanned_again xs k.2; second = (placed_again c k.3, spanned_again ys k.4) }
+  by_operands : (b o : Bool) → bent ≡ b → out ≡ o → IsReadAs table reading
+  by_operands true o eb eo =
+      subst (λ (w : Reading). IsReadAs table w) (sym (reading_is (Some Shape) (shape_first faults (shapes ∙ eb)))) (λ s. table_step s f r xs (Some (c, ys)) true o is_many eb eo refl)
+  by_operands false true eb eo =
+      subst (λ (w : Reading). IsReadAs table w) (sym (reading_is (Some AtOutside) (outside_next faults (shapes ∙ eb) (outs ∙ eo)))) (λ s. table_step s f r xs (Some (c, ys)) false true is_many eb eo refl)
+  by_operands false false eb eo =
+      subst (λ (w : Reading). IsReadAs table w) (sym (reading_is None (none_bad faults (shapes ∙ eb) (outs ∙ eo)) ∙ command_is eo)) (eo, refl)
 
-  good : bent ≡ false → out ≡ false → call.IsCallStep s proper (table_answer false false is_many (tabled s (address f) (address r) (area xs) (Some (address c, area ys))))
-  good eb eo =
-      let k = none_of (is_outside f) (is_outside r) outside_xs (is_outside c) outside_ys eo in
-      let bent_xs : Bool = not outside_xs && not (xs.0.column == xs.1.column) in
-      let bent_ys : Bool = not outside_ys && not (ys.0.row == ys.1.row) in
-      let column : is_column (area xs) ≡ true = column_is xs k.2 ∙ straight outside_xs (xs.0.column == xs.1.column) (or_parts bent_xs bent_ys eb).0 k.2 in
-      let row : is_row (area ys) ≡ true = row_is ys k.4 ∙ straight outside_ys (ys.0.row == ys.1.row) (or_parts bent_xs bent_ys eb).1 k.4 in
-      table_by s (address f) (address r) (area xs) (Some (address c, area ys)) (all_placed eo) false is_many
-      (ap (λ (b : Bool). not b || not (is_row (area ys))) column ∙ ap not row)
-      (ap (λ (n : ℕ). nat_lt max_area (size_of (area xs) * n)) (once (size_of (area ys))))
+  pub two_read : IsReadAs table reading
+  two_read = by_operands bent out refl refl
 
-  -- its call, by what is bent and what is outside
-  pub bent_call : bent ≡ true → call_of table ≡ call.Refused refusal.BadCommand
-  bent_call eb = call_is (Some Shape) (shape_first faults (shapes ∙ eb))
+  -- what is bent is bent as a rectangle of the sheet
+  bent_is : lies_out xs ≡ false → lies_out ys ≡ false → (not (is_column (area xs)) || not (is_row (area ys))) ≡ bent
+  bent_is ex ey =
+      ap₂ (λ (a b : Bool). not a || not b) (column_is xs ex) (row_is ys ey)
+      ∙ ap₂ (λ (a b : Bool). (not a && not (xs.0.column == xs.1.column)) || (not b && not (ys.0.row == ys.1.row))) (sym ex) (sym ey)
 
-  pub outside_call : bent ≡ false → out ≡ true → call_of table ≡ call.Refused refusal.OutOfSheet
-  outside_call eb eo = call_is (Some AtOutside) (outside_next faults (shapes ∙ eb) (outs ∙ eo))
-
-  pub proper_call : bent ≡ false → out ≡ false → call_of table ≡ proper
-  proper_call eb eo = call_is None (none_bad faults (shapes ∙ eb) (outs ∙ eo)) ∙ command_is eo
-
-  by_operands : (b o : Bool) → bent ≡ b → out ≡ o → HasStep s table
-  by_operands true o eb eo a =
-      same_answers s table (call_of table) (Err refusal.BadCommand) (answered_so s table _ _ (bent_call eb) refl) (table_step s f r xs (Some (c, ys)) true o is_many eb eo refl) a
-  by_operands false true eb eo a =
-      same_answers s table (call_of table) (Err refusal.OutOfSheet) (answered_so s table _ _ (outside_call eb eo) refl)
-      (table_step s f r xs (Some (c, ys)) false true is_many eb eo refl) a
-  by_operands false false eb eo a =
-      same_answers s table (call_of table) (table_answer false false is_many (tabled s (address f) (address r) (area xs) (Some (address c, area ys))))
-      (answered_so s table _ _ (proper_call eb eo) (good eb eo)) (table_step s f r xs (Some (c, ys)) false false is_many eb eo refl) a
-
-  pub same_table_of_two : HasStep s table
-  same_table_of_two = by_operands bent out refl refl
+  pub table_of_two_spans : (s : State) → out ≡ false → (a : Answer) → IsStep s (placed table) a → IsStep s table a
+  table_of_two_spans s eo a h =
+      let k = none_of (is_outside f) (is_outside r) (lies_out xs) (is_outside c) (lies_out ys) eo in
+      let all : IsTablePlaced (address f) (address r) (area xs) (Some (address c, area ys)) =
+      record { formula_cell = placed_again f k.0; input = placed_again r k.1; column = spanned_again xs k.2; second = (placed_again c k.3, spanned_again ys k.4) } in
+      let own : IsStep s table (table_answer bent false is_many (tabled s (address f) (address r) (area xs) (Some (address c, area ys)))) = table_step s f r xs (Some (c, ys)) bent false is_many refl eo refl in
+      let of_sheet : IsStep s (placed table) (table_answer bent false is_many (tabled s (address f) (address r) (area xs) (Some (address c, area ys)))) =
+      table_by s (address f) (address r) (area xs) (Some (address c, area ys)) all bent is_many (bent_is k.2 k.4) (ap (λ (n : ℕ). nat_lt max_area (size_of (area xs) * n)) (once (size_of (area ys)))) in
+      subst (λ (x : Answer). IsStep s table x) (no_other s (placed table) _ a of_sheet h) own
 
 -- ---- one input
 
-module _ (s : State) (f r : Cell) (xs : Corners) where
+module _ (f r : Cell) (xs : Corners) where
   abbrev one : Command
   one = Table f r xs None
 
-  abbrev pub one_bent : Bool
-  one_bent = not (is_outside xs.0 || is_outside xs.1) && not (xs.0.column == xs.1.column)
+  abbrev one_bent : Bool
+  one_bent = not (lies_out xs) && not (xs.0.column == xs.1.column)
 
-  abbrev pub one_out : Bool
-  one_out = is_outside f || (is_outside r || ((is_outside xs.0 || is_outside xs.1) || false))
+  abbrev one_out : Bool
+  one_out = is_outside f || (is_outside r || (lies_out xs || false))
 
-  abbrev one_faults : List (Option AddressFault)
-  one_faults = result_err (read_cell f) ∷ result_err (read_cell r) ∷ line_fault is_column (read_area xs) ∷ []
+  abbrev one_many : Bool
+  one_many = nat_lt max_area (size_of (area xs) * 1)
 
-  one_shapes : list_any is_shape one_faults ≡ one_bent
+  abbrev faults_of_one : List (Option AddressFault)
+  faults_of_one = one_faults (read_cell f) (read_cell r) (read_area xs)
+
+  one_shapes : list_any is_shape faults_of_one ≡ one_bent
   one_shapes =
       by _ _ _ _ (cell_shape (is_outside f) (address f)) (cell_shape (is_outside r) (address r))
-      (line_shape is_column (is_outside xs.0 || is_outside xs.1) (xs.0.column == xs.1.column) (area xs) (column_is xs))
+      (line_shape is_column (lies_out xs) (xs.0.column == xs.1.column) (area xs) (column_is xs))
     where
       by : (p q x u : Bool) → p ≡ false → q ≡ false → x ≡ u → (p || (q || (x || false))) ≡ u
       by true q x u a b d = absurd (both_ways true a refl)
       by false true x u a b d = absurd (both_ways true b refl)
       by false false x u a b d = or-false x ∙ d
 
-  one_outs : list_any is_out one_faults ≡ one_out
-  one_outs = by _ _ _ _ _ _ (cell_out (is_outside f) (address f)) (cell_out (is_outside r) (address r)) (line_out is_column (is_outside xs.0 || is_outside xs.1) (area xs))
+  one_outs : list_any is_out faults_of_one ≡ one_out
+  one_outs = by _ _ _ _ _ _ (cell_out (is_outside f) (address f)) (cell_out (is_outside r) (address r)) (line_out is_column (lies_out xs) (area xs))
     where
       by : (p q x p' q' x' : Bool) → p ≡ p' → q ≡ q' → x ≡ x' → (p || (q || (x || false))) ≡ (p' || (q' || (x' || false)))
       by p q x p' q' x' a b d =
           ap (λ (k : Bool). k || (q || (x || false))) a ∙ ap (λ (k : Bool). p' || (k || (x || false))) b ∙ ap (λ (k : Bool). p' || (q' || (k || false))) d
 
-  abbrev one_command : call.Call
-  one_command = of_operand (read_cell f) (λ f. of_operand (read_cell r) (λ r. of_operand (read_area xs) (λ xs. call.Table f r xs None)))
+  abbrev one_command : Reading
+  one_command = of_operand (read_cell f) (λ f. of_operand (read_cell r) (λ r. of_operand (read_area xs) (λ xs. Ok (Table (cell f) (cell r) (corners xs) None))))
 
-  one_call : (o : Option AddressFault) → worst one_faults ≡ o → call_of one ≡ unless_refused o one_command
-  one_call o e =
-      ap (λ (y : Option AddressFault). unless_refused (worse (result_err (read_cell f)) (worse (result_err (read_cell r)) y)) one_command) (last_one (line_fault is_column (read_area xs)))
-      ∙ ap (λ (w : Option AddressFault). unless_refused w one_command) e
+  abbrev one_reading : Reading
+  one_reading = table_of_one (read_cell f) (read_cell r) (read_area xs)
 
-  pub one_bent_call : one_bent ≡ true → call_of one ≡ call.Refused refusal.BadCommand
-  one_bent_call eb = one_call (Some Shape) (shape_first one_faults (one_shapes ∙ eb))
+  one_reading_is : (o : Option AddressFault) → worst faults_of_one ≡ o → one_reading ≡ unless_refused o one_command
+  one_reading_is o e = one_as (read_cell f) (read_cell r) (read_area xs) o e
 
-  pub one_outside_call : one_bent ≡ false → one_out ≡ true → call_of one ≡ call.Refused refusal.OutOfSheet
-  one_outside_call eb eo = one_call (Some AtOutside) (outside_next one_faults (one_shapes ∙ eb) (one_outs ∙ eo))
+  none_of_three : one_out ≡ false → (is_outside f ≡ false) × (is_outside r ≡ false) × (lies_out xs ≡ false)
+  none_of_three eo =
+      let p = or_parts (is_outside f) (is_outside r || (lies_out xs || false)) eo in
+      let q = or_parts (is_outside r) (lies_out xs || false) p.1 in
+      (p.0, q.0, (or_parts (lies_out xs) false q.1).0)
 
-  pub one_proper_call : one_bent ≡ false → one_out ≡ false → call_of one ≡ call.Table (address f) (address r) (area xs) None
-  one_proper_call eb eo =
-      one_call None (none_bad one_faults (one_shapes ∙ eb) (one_outs ∙ eo))
-      ∙ by (or_parts _ _ eo).0 (or_parts _ _ (or_parts _ _ eo).1).0 (or_parts _ _ (or_parts _ _ (or_parts _ _ eo).1).1).0
+  one_command_is : one_out ≡ false → one_command ≡ Ok (placed one)
+  one_command_is eo = let k = none_of_three eo in by k.0 k.1 k.2
     where
-      by : is_outside f ≡ false → is_outside r ≡ false → (is_outside xs.0 || is_outside xs.1) ≡ false → one_command ≡ call.Table (address f) (address r) (area xs) None
+      by : is_outside f ≡ false → is_outside r ≡ false → lies_out xs ≡ false → one_command ≡ Ok (placed one)
       by ef er ex = rw (ef, er, ex) refl
 
-  abbrev one_many : Bool
-  one_many = nat_lt max_area (size_of (area xs) * 1)
+  one_by_operands : (b o : Bool) → one_bent ≡ b → one_out ≡ o → IsReadAs one one_reading
+  one_by_operands true o eb eo =
+      subst (λ (w : Reading). IsReadAs one w) (sym (one_reading_is (Some Shape) (shape_first faults_of_one (one_shapes ∙ eb)))) (λ s. table_step s f r xs None true o one_many eb eo refl)
+  one_by_operands false true eb eo =
+      subst (λ (w : Reading). IsReadAs one w) (sym (one_reading_is (Some AtOutside) (outside_next faults_of_one (one_shapes ∙ eb) (one_outs ∙ eo)))) (λ s. table_step s f r xs None false true one_many eb eo refl)
+  one_by_operands false false eb eo =
+      subst (λ (w : Reading). IsReadAs one w) (sym (one_reading_is None (none_bad faults_of_one (one_shapes ∙ eb) (one_outs ∙ eo)) ∙ one_command_is eo)) (eo, refl)
 
-  one_placed : one_out ≡ false → IsTablePlaced (address f) (address r) (area xs) None
-  one_placed eo = record {
-    formula_cell = placed_again f (or_parts _ _ eo).0;
-    input = placed_again r (or_parts _ _ (or_parts _ _ eo).1).0;
-    column = spanned_again xs (or_parts _ _ (or_parts _ _ (or_parts _ _ eo).1).1).0;
-    second = tt;
-  }
+  pub one_read : IsReadAs one one_reading
+  one_read = one_by_operands one_bent one_out refl refl
 
-  one_good : one_bent ≡ false → one_out ≡ false → call.IsCallStep s (call.Table (address f) (address r) (area xs) None) (table_answer false false one_many (tabled s (address f) (address r) (area xs) None))
-  one_good eb eo =
-      let inside : (is_outside xs.0 || is_outside xs.1) ≡ false = (or_parts _ _ (or_parts _ _ (or_parts _ _ eo).1).1).0 in
-      let column : is_column (area xs) ≡ true = column_is xs inside ∙ straight (is_outside xs.0 || is_outside xs.1) (xs.0.column == xs.1.column) eb inside in
-      table_by s (address f) (address r) (area xs) None (one_placed eo) false one_many (ap (λ (b : Bool). not b || false) column) refl
-
-  one_by_operands : (b o : Bool) → one_bent ≡ b → one_out ≡ o → HasStep s one
-  one_by_operands true o eb eo a =
-      same_answers s one (call_of one) (Err refusal.BadCommand) (answered_so s one _ _ (one_bent_call eb) refl) (table_step s f r xs None true o one_many eb eo refl) a
-  one_by_operands false true eb eo a =
-      same_answers s one (call_of one) (Err refusal.OutOfSheet) (answered_so s one _ _ (one_outside_call eb eo) refl) (table_step s f r xs None false true one_many eb eo refl) a
-  one_by_operands false false eb eo a =
-      same_answers s one (call_of one) (table_answer false false one_many (tabled s (address f) (address r) (area xs) None)) (answered_so s one _ _ (one_proper_call eb eo) (one_good eb eo))
-      (table_step s f r xs None false false one_many eb eo refl) a
-
-  pub same_table : HasStep s one
-  same_table = one_by_operands one_bent one_out refl refl
-
--- ---- operands of the wrong shape
-
-pub one_is_bad : (f r : Result ℕ AddressFault) (xs : Result Area AddressFault) → list_any is_shape (result_err f ∷ result_err r ∷ line_fault is_column xs ∷ []) ≡ true
-    → table_of_one f r xs ≡ call.Refused refusal.BadCommand
-one_is_bad f r xs h =
-    let command : call.Call = of_operand f (λ f. of_operand r (λ r. of_operand xs (λ xs. call.Table f r xs None))) in
-    ap (λ (y : Option AddressFault). unless_refused (worse (result_err f) (worse (result_err r) y)) command) (last_one (line_fault is_column xs))
-    ∙ ap (λ (w : Option AddressFault). unless_refused w command) (shape_first (result_err f ∷ result_err r ∷ line_fault is_column xs ∷ []) h)
-
-pub two_is_bad : (f r : Result ℕ AddressFault) (xs : Result Area AddressFault) (c : Result ℕ AddressFault) (ys : Result Area AddressFault)
-    → list_any is_shape (result_err f ∷ result_err r ∷ line_fault is_column xs ∷ result_err c ∷ line_fault is_row ys ∷ []) ≡ true → table_of_two f r xs c ys ≡ call.Refused refusal.BadCommand
-two_is_bad f r xs c ys h =
-    let command : call.Call = of_operand f (λ f. of_operand r (λ r. of_operand xs (λ xs. of_operand c (λ c. of_operand ys (λ ys. call.Table f r xs (Some (c, ys))))))) in
-    ap (λ (y : Option AddressFault). unless_refused (worse (result_err f) (worse (result_err r) (worse (line_fault is_column xs) (worse (result_err c) y)))) command) (last_one (line_fault is_row ys))
-    ∙ ap (λ (w : Option AddressFault). unless_refused w command) (shape_first (result_err f ∷ result_err r ∷ line_fault is_column xs ∷ result_err c ∷ line_fault is_row ys ∷ []) h)
+  pub table_spans : (s : State) → one_out ≡ false → (a : Answer) → IsStep s (placed one) a → IsStep s one a
+  table_spans s eo a h =
+      let k = none_of_three eo in
+      let all : IsTablePlaced (address f) (address r) (area xs) None = record { formula_cell = placed_again f k.0; input = placed_again r k.1; column = spanned_again xs k.2; second = tt } in
+      let same : (not (is_column (area xs)) || false) ≡ one_bent =
+      ap (λ (b : Bool). not b || false) (column_is xs k.2) ∙ or-false (not (xs.0.column == xs.1.column)) ∙ ap (λ (b : Bool). not b && not (xs.0.column == xs.1.column)) (sym k.2) in
+      let own : IsStep s one (table_answer one_bent false one_many (tabled s (address f) (address r) (area xs) None)) = table_step s f r xs None one_bent false one_many refl eo refl in
+      let of_sheet : IsStep s (placed one) (table_answer one_bent false one_many (tabled s (address f) (address r) (area xs) None)) =
+      table_by s (address f) (address r) (area xs) None all one_bent one_many same refl in
+      subst (λ (x : Answer). IsStep s one x) (no_other s (placed one) _ a of_sheet h) own

@@ -1,9 +1,7 @@
 -- The command that a text spells, and the form that it has.
-use Rattle.wi_cli.proofs.Vocabulary.{◌≡◌, Bool, true, false, List, [], ◌∷◌, inl, inr, Option, Some, None, refl, sym, ap, ◌∙◌, subst, codes, both_ways, first_word, after_word, Bytes, set_command, clear_command, fill_command, edit_command, scenario_command, drop_command, base_command, use_command, as_command, show_command, export_command, changes_command, compare_command, formula_command, table_command, named_command, spelled_command, Cell, Corners, Operand, WORD, RECT, NAME, SESSION, IsWritten, Command, Set, Clear, Fill, Csv, Scenario, Drop, Base, Use, As, Show, Export, Compare, Table, Formula, Changes, Unknown, Unreadable, form, call_of}
-use Rattle.wi_scenarios.specs.declared.refusal.Refusal.TheVariants as refusal
-use Rattle.wi_cli.specs.Inner.Calls as call
-use Rattle.wi_cli.proofs.Ties.CommandNames.{Name, FORCE, SCENARIO, DROP, BASE, USE, AS, SHOW, EXPORT, CHANGES, COMPARE, TABLE, FORMULA, SET, CLEAR, FILL, edit_name, name_in, Edit, set_edit, clear_edit, fill_edit, no_edit, edit_of, Word, a_force, a_scenario, a_drop, a_base, a_use, a_as, a_show, a_export, a_changes, a_compare, a_table, a_formula, an_edit, word_of}
-use Rattle.wi_cli.proofs.Ties.Forms.{Chosen, same_rect_end, rect_end, same_name_end, name_end, maybe_form, set_form, same_set, set_or, fill_form, same_fill, fill_or, cell_form, same_formula, formula_or, scenario_form, same_scenario, scenario_or, base_form, same_base, base_or, same_use, use_or, no_form, same_changes, changes_or, compare_form, same_compare, compare_or, table_form, same_table, table_or}
+use Rattle.wi_cli.proofs.Vocabulary.{◌≡◌, Bool, List, None, Option, Some, [], ap, arith, bytes_eq, codes, cond, false, if◌then◌else◌, not, option_map, refl, subst, suc, sym, true, ℕ, ◌+◌, ◌==◌, ◌∙◌, ◌∷◌, both_ways, nat_tests, before_first, prefix_len, csv_named, csv_text, AND, A_CELL, A_NAME, A_RECT, END, Form, MAYBE, Values, as_form, base_form, changes_form, clear_form, compare_form, drop_form, edit_forms, export_form, fill_form, formula_form, named_command, named_in, read_words, scenario_form, set_form, show_form, table_form, use_form, spelled_command, is_all_spaces, Bytes, after_word, first_word, is_space, skip_spaces, is_passed_over, IsWritten, As, Base, Changes, Clear, Command, Compare, Csv, Drop, Export, Fill, Formula, Scenario, Set, Show, Table, Unknown, Unreadable, Use, may_force, ADDR, Cell, Corners, NAME, Operand, RECT, WORD, take, byte, forms, made, spelled, form}
+use Rattle.wi_cli.proofs.Ties.OperandsRead.{no_word, is_word}
+use Rattle.wi_cli.proofs.Ties.Words.{operands, words_read, are_written}
 
 -- a command that a text may spell without data lines
 abbrev pub is_plain : Command → Bool
@@ -12,178 +10,193 @@ is_plain Unknown = false
 is_plain Unreadable = false
 is_plain c = true
 
--- ---- what is spelled is what was read
+-- ---- a text that spells a command isn't passed over
 
-pub same_form : (text : Bytes) (c : Command) → is_plain c ≡ true → IsWritten text (form c) → spelled_command text ≡ call_of c
-unfolding spelled_command
-same_form text (Set false at t) p h = ap (λ (w : Bytes). named_command w (after_word text)) h.0 ∙ same_set false (after_word text) (at, t) h.1
-same_form text (Set true at t) p h =
-    ap (λ (w : Bytes). named_command w (after_word text)) h.0 ∙ ap (λ (w : Bytes). edit_command true w (after_word (after_word text))) h.1.0
-    ∙ same_set true (after_word (after_word text)) (at, t) h.1.1
-same_form text (Clear false r) p h = ap (λ (w : Bytes). named_command w (after_word text)) h.0 ∙ same_rect_end (λ a. call.Clear false a) (after_word text) r h.1
-same_form text (Clear true r) p h =
-    ap (λ (w : Bytes). named_command w (after_word text)) h.0 ∙ ap (λ (w : Bytes). edit_command true w (after_word (after_word text))) h.1.0
-    ∙ same_rect_end (λ a. call.Clear true a) (after_word (after_word text)) r h.1.1
-same_form text (Fill false at r) p h = ap (λ (w : Bytes). named_command w (after_word text)) h.0 ∙ same_fill false (after_word text) (at, r) h.1
-same_form text (Fill true at r) p h =
-    ap (λ (w : Bytes). named_command w (after_word text)) h.0 ∙ ap (λ (w : Bytes). edit_command true w (after_word (after_word text))) h.1.0
-    ∙ same_fill true (after_word (after_word text)) (at, r) h.1.1
-same_form text (Csv force at n lines) p h = absurd (both_ways false refl p)
-same_form text (Scenario name at t) p h = ap (λ (w : Bytes). named_command w (after_word text)) h.0 ∙ same_scenario (after_word text) (name, at, t) h.1
-same_form text (Drop name) p h = ap (λ (w : Bytes). named_command w (after_word text)) h.0 ∙ same_name_end (λ n. call.Drop n) (after_word text) name h.1
-same_form text (Base name None) p h = ap (λ (w : Bytes). named_command w (after_word text)) h.0 ∙ same_base (after_word text) (name, None) h.1
-same_form text (Base name (Some other)) p h = ap (λ (w : Bytes). named_command w (after_word text)) h.0 ∙ same_base (after_word text) (name, Some other) h.1
-same_form text (Use None) p h = ap (λ (w : Bytes). named_command w (after_word text)) h.0 ∙ same_use (after_word text) None h.1
-same_form text (Use (Some name)) p h = ap (λ (w : Bytes). named_command w (after_word text)) h.0 ∙ same_use (after_word text) (Some name) h.1
-same_form text (As name) p h = ap (λ (w : Bytes). named_command w (after_word text)) h.0 ∙ same_name_end (λ n. call.As n) (after_word text) name h.1
-same_form text (Show r) p h = ap (λ (w : Bytes). named_command w (after_word text)) h.0 ∙ same_rect_end (λ a. call.Show a) (after_word text) r h.1
-same_form text (Export r) p h = ap (λ (w : Bytes). named_command w (after_word text)) h.0 ∙ same_rect_end (λ a. call.Export a) (after_word text) r h.1
-same_form text (Compare a b r) p h = ap (λ (w : Bytes). named_command w (after_word text)) h.0 ∙ same_compare (after_word text) (a, b, r) h.1
-same_form text (Table f r xs None) p h = ap (λ (w : Bytes). named_command w (after_word text)) h.0 ∙ same_table (after_word text) f r xs None h.1
-same_form text (Table f r xs (Some y)) p h = ap (λ (w : Bytes). named_command w (after_word text)) h.0 ∙ same_table (after_word text) f r xs (Some y) h.1
-same_form text (Formula at) p h = ap (λ (w : Bytes). named_command w (after_word text)) h.0 ∙ same_formula (after_word text) at h.1
-same_form text Changes p h = ap (λ (w : Bytes). named_command w (after_word text)) h.0 ∙ same_changes (after_word text) h.1
-same_form text Unknown p h = absurd (both_ways false refl p)
-same_form text Unreadable p h = absurd (both_ways false refl p)
+abbrev may_begin : Bytes → Bool
+may_begin [] = false
+may_begin (b ∷ bs) = not (b == byte "#")
 
--- ---- no form
+-- a text that begins with no space begins as its first word does
+same_begin : (b : ℕ) (bs : Bytes) → is_space b ≡ false → may_begin (first_word (b ∷ bs)) ≡ not (b == byte "#")
+same_begin b bs s =
+    let skip : skip_spaces (b ∷ bs) ≡ b ∷ bs = ap (λ (v : Bool). if v then skip_spaces bs else b ∷ bs) s in
+    let one : 1 + prefix_len (λ x. not (is_space x)) bs ≡ suc (prefix_len (λ x. not (is_space x)) bs) = omega arith in
+    ap (λ (t : Bytes). may_begin (before_first is_space t)) skip
+    ∙ ap (λ (v : Bool). may_begin (take (cond (not v) (1 + prefix_len (λ x. not (is_space x)) bs) 0) (b ∷ bs))) s
+    ∙ ap (λ (k : ℕ). may_begin (take k (b ∷ bs))) one
 
-abbrev NoEdit : Name → Bytes → Type 0
-NoEdit SET text = (x : Cell × Bytes) → IsWritten text (set_form x) → ⊥
-NoEdit CLEAR text = (r : Corners) → IsWritten text (RECT r ∷ []) → ⊥
-NoEdit FILL text = (x : Cell × Corners) → IsWritten text (fill_form x) → ⊥
-NoEdit name text = Unit {0}
+no_hash : (b : ℕ) → (b == byte "#") ≡ true → is_space b ≡ false
+no_hash b e = grind (arith, nat_tests)
 
--- behind this name stand no operands of its forms
-abbrev pub NoForm : Name → Bytes → Type 0
-NoForm FORCE text = NoEdit (edit_name (first_word text)) (after_word text)
-NoForm SCENARIO text = (x : Bytes × Cell × Bytes) → IsWritten text (scenario_form x) → ⊥
-NoForm DROP text = (name : Bytes) → IsWritten text (NAME name ∷ []) → ⊥
-NoForm BASE text = (x : Bytes × Option Bytes) → IsWritten text (base_form x) → ⊥
-NoForm USE text = (o : Option Bytes) → IsWritten text (maybe_form o) → ⊥
-NoForm AS text = (name : Bytes) → IsWritten text (SESSION name ∷ []) → ⊥
-NoForm SHOW text = (r : Corners) → IsWritten text (RECT r ∷ []) → ⊥
-NoForm EXPORT text = (r : Corners) → IsWritten text (RECT r ∷ []) → ⊥
-NoForm CHANGES text = (x : Unit {0}) → IsWritten text [] → ⊥
-NoForm COMPARE text = (x : Option Bytes × Option Bytes × Corners) → IsWritten text (compare_form x) → ⊥
-NoForm TABLE text = (x : Cell × Cell × Corners × Option (Cell × Corners)) → IsWritten text (table_form x) → ⊥
-NoForm FORMULA text = (c : Cell) → IsWritten text (cell_form c) → ⊥
-NoForm name text = NoEdit name text
+pub not_passed : (text name : Bytes) → first_word text ≡ name → may_begin name ≡ true → is_passed_over text ≡ false
+not_passed [] name e h = absurd (both_ways (may_begin []) refl (ap may_begin e ∙ h))
+not_passed (b ∷ bs) name e h = by (b == byte "#") refl (is_all_spaces (b ∷ bs)) refl
+  where
+    by : (v : Bool) → (b == byte "#") ≡ v → (x : Bool) → is_all_spaces (b ∷ bs) ≡ x → is_passed_over (b ∷ bs) ≡ false
+    by true f x g =
+        let hash : not (b == byte "#") ≡ false = ap not f in
+        absurd (both_ways _ hash (sym (same_begin b bs (no_hash b f)) ∙ ap may_begin e ∙ h))
+    by false f true g = absurd (both_ways (may_begin []) refl (ap may_begin (sym (no_word (b ∷ bs) g) ∙ e) ∙ h))
+    by false f false g = rw (f, g) refl
 
-module _ (text : Bytes) (none : NoForm (name_in (first_word text)) (after_word text)) where
-  behind : (name : Bytes) → first_word text ≡ name → NoForm (name_in name) (after_word text)
-  behind name e = subst (λ (w : Bytes). NoForm (name_in w) (after_word text)) e none
+-- ---- what is written is what is spelled
 
-  forced : first_word text ≡ codes "force" → (name : Bytes) → first_word (after_word text) ≡ name → NoEdit (edit_name name) (after_word (after_word text))
-  forced e name f = subst (λ (w : Bytes). NoEdit (edit_name w) (after_word (after_word text))) f (behind (codes "force") e)
+-- the text spells the command, asks for no data lines, and isn't passed over
+pub record Said (text : Bytes) (c : Command) : Type 0 where
+  pub same : spelled_command text ≡ c
+  pub no_csv : csv_text text ≡ None
+  pub kept : is_passed_over text ≡ false
 
-  pub none_written : (c : Command) → is_plain c ≡ true → IsWritten text (form c) → ⊥
-  none_written (Set false at t) p h = behind (codes "set") h.0 (at, t) h.1
-  none_written (Set true at t) p h = forced h.0 (codes "set") h.1.0 (at, t) h.1.1
-  none_written (Clear false r) p h = behind (codes "clear") h.0 r h.1
-  none_written (Clear true r) p h = forced h.0 (codes "clear") h.1.0 r h.1.1
-  none_written (Fill false at r) p h = behind (codes "fill") h.0 (at, r) h.1
-  none_written (Fill true at r) p h = forced h.0 (codes "fill") h.1.0 (at, r) h.1.1
-  none_written (Csv force at n lines) p h = both_ways false refl p
-  none_written (Scenario name at t) p h = behind (codes "scenario") h.0 (name, at, t) h.1
-  none_written (Drop name) p h = behind (codes "drop") h.0 name h.1
-  none_written (Base name None) p h = behind (codes "base") h.0 (name, None) h.1
-  none_written (Base name (Some other)) p h = behind (codes "base") h.0 (name, Some other) h.1
-  none_written (Use None) p h = behind (codes "use") h.0 None h.1
-  none_written (Use (Some name)) p h = behind (codes "use") h.0 (Some name) h.1
-  none_written (As name) p h = behind (codes "as") h.0 name h.1
-  none_written (Show r) p h = behind (codes "show") h.0 r h.1
-  none_written (Export r) p h = behind (codes "export") h.0 r h.1
-  none_written (Compare a b r) p h = behind (codes "compare") h.0 (a, b, r) h.1
-  none_written (Table f r xs None) p h = behind (codes "table") h.0 (f, r, xs, None) h.1
-  none_written (Table f r xs (Some y)) p h = behind (codes "table") h.0 (f, r, xs, Some y) h.1
-  none_written (Formula at) p h = behind (codes "formula") h.0 at h.1
-  none_written Changes p h = behind (codes "changes") h.0 tt h.1
-  none_written Unknown p h = both_ways false refl p
-  none_written Unreadable p h = both_ways false refl p
+spelled_as : (f : Form) (text : Bytes) (v : Values f.words) → IsWritten text (operands f.words v) → spelled f text ≡ f.make v
+spelled_as f text v h = ap (λ (o : Option (Values f.words)). made o f.make) (words_read f.words text v h)
 
--- ---- either is so
+module _ (text : Bytes) (f : Form) (v : Values f.words) where
+  behind : named_command f.name (after_word text) ≡ spelled f (after_word text) → bytes_eq f.name (codes "force") ≡ false → bytes_eq f.name (codes "csv") ≡ false → may_begin f.name ≡ true
+      → first_word text ≡ f.name → IsWritten (after_word text) (operands f.words v) → Said text (f.make v)
+  unfolding spelled_command
+  behind named no_force no_csv begins e h = record {
+    same = ap (λ (w : Bytes). named_command w (after_word text)) e ∙ named ∙ spelled_as f (after_word text) v h;
+    no_csv =
+        ap (λ (w : Bytes). if bytes_eq w (codes "force") then csv_named true (first_word (after_word text)) (after_word (after_word text)) else csv_named false w (after_word text)) e
+        ∙ rw (no_force, no_csv) refl;
+    kept = not_passed text f.name e begins;
+  }
 
--- the text spells a command, or it spells none and was refused
+  abbrev edited : Bytes
+  edited = after_word (after_word text)
+
+  forced : named_in (edit_forms true) f.name edited ≡ spelled f edited → bytes_eq f.name (codes "csv") ≡ false → first_word text ≡ codes "force" → first_word (after_word text) ≡ f.name
+      → IsWritten edited (operands f.words v) → Said text (f.make v)
+  unfolding spelled_command
+  forced named no_csv e g h = record {
+    same =
+        ap (λ (w : Bytes). named_command w (after_word text)) e ∙ ap (λ (w : Bytes). named_in (edit_forms true) w edited) g ∙ named
+        ∙ spelled_as f edited v h;
+    no_csv =
+        ap (λ (w : Bytes). if bytes_eq w (codes "force") then csv_named true (first_word (after_word text)) edited else csv_named false w (after_word text)) e
+        ∙ ap (λ (w : Bytes). csv_named true w edited) g ∙ rw no_csv refl;
+    kept = not_passed text (codes "force") e refl;
+  }
+
+pub said : (text : Bytes) (c : Command) → is_plain c ≡ true → IsWritten text (form c) → Said text c
+said text (Set false at t) p h = behind text (set_form false) (at, t) refl refl refl refl h.0 h.1
+said text (Set true at t) p h = forced text (set_form true) (at, t) refl refl h.0 h.1.0 h.1.1
+said text (Clear false r) p h = behind text (clear_form false) (r, tt) refl refl refl refl h.0 h.1
+said text (Clear true r) p h = forced text (clear_form true) (r, tt) refl refl h.0 h.1.0 h.1.1
+said text (Fill false at r) p h = behind text (fill_form false) (at, (r, tt)) refl refl refl refl h.0 h.1
+said text (Fill true at r) p h = forced text (fill_form true) (at, (r, tt)) refl refl h.0 h.1.0 h.1.1
+said text (Csv force at n lines) p h = absurd (both_ways false refl p)
+said text (Scenario name at t) p h = behind text scenario_form (name, (at, t)) refl refl refl refl h.0 h.1
+said text (Drop name) p h = behind text drop_form (name, tt) refl refl refl refl h.0 h.1
+said text (Base name None) p h = behind text base_form (name, None) refl refl refl refl h.0 h.1
+said text (Base name (Some other)) p h = behind text base_form (name, Some (other, tt)) refl refl refl refl h.0 h.1
+said text (Use None) p h = behind text use_form None refl refl refl refl h.0 h.1
+said text (Use (Some name)) p h = behind text use_form (Some (name, tt)) refl refl refl refl h.0 h.1
+said text (As name) p h = behind text as_form (name, tt) refl refl refl refl h.0 h.1
+said text (Show r) p h = behind text show_form (r, tt) refl refl refl refl h.0 h.1
+said text (Export r) p h = behind text export_form (r, tt) refl refl refl refl h.0 h.1
+said text (Compare s t r) p h = behind text compare_form (s, (t, (r, tt))) refl refl refl refl h.0 h.1
+said text (Table f r xs None) p h = behind text table_form (f, (r, (xs, None))) refl refl refl refl h.0 h.1
+said text (Table f r xs (Some y)) p h = behind text table_form (f, (r, (xs, Some (y.0, (y.1, tt))))) refl refl refl refl h.0 h.1
+said text (Formula at) p h = behind text formula_form (at, tt) refl refl refl refl h.0 h.1
+said text Changes p h = behind text changes_form tt refl refl refl refl h.0 h.1
+said text Unknown p h = absurd (both_ways false refl p)
+said text Unreadable p h = absurd (both_ways false refl p)
+
+-- ---- what is spelled is written
+
+-- a form of commands is the one that they are written in, behind words that stand in front
+record IsForm (front : List Operand → List Operand) (f : Form) : Type 0 where
+  pub is_form : (v : Values f.words) → form (f.make v) ≡ front (WORD f.name ∷ operands f.words v)
+  pub plain : (v : Values f.words) → is_plain (f.make v) ≡ true
+
+abbrev AreForms : (List Operand → List Operand) → List Form → Type 0
+AreForms front [] = Unit {0}
+AreForms front (f ∷ fs) = IsForm front f × AreForms front fs
+
+base_is : (name : Bytes) (o : Option (Bytes × Unit {0})) → form (Base name (option_map (λ x. x.0) o)) ≡ WORD (codes "base") ∷ NAME name ∷ operands (MAYBE A_NAME END) o
+base_is name None = refl
+base_is name (Some x) = refl
+
+use_is : (o : Option (Bytes × Unit {0})) → form (Use (option_map (λ x. x.0) o)) ≡ WORD (codes "use") ∷ operands (MAYBE A_NAME END) o
+use_is None = refl
+use_is (Some x) = refl
+
+table_is : (f r : Cell) (xs : Corners) (o : Option (Cell × (Corners × Unit {0})))
+    → form (Table f r xs (option_map (λ y. (y.0, y.1.0)) o)) ≡ WORD (codes "table") ∷ ADDR f ∷ ADDR r ∷ RECT xs ∷ operands (MAYBE A_CELL (AND A_RECT END)) o
+table_is f r xs None = refl
+table_is f r xs (Some y) = refl
+
+edits_are : (force : Bool) → AreForms (may_force force) (edit_forms force)
+edits_are force =
+    (record { is_form = λ v. refl; plain = λ v. refl }, (record { is_form = λ v. refl; plain = λ v. refl }, (record { is_form = λ v. refl; plain = λ v. refl }, tt)))
+
+all_are : AreForms (may_force false) forms
+all_are = (
+  record { is_form = λ v. refl; plain = λ v. refl },
+  (
+    record { is_form = λ v. refl; plain = λ v. refl },
+    (
+      record { is_form = λ v. base_is v.0 v.1; plain = λ v. refl },
+      (
+        record { is_form = λ v. use_is v; plain = λ v. refl },
+        (
+          record { is_form = λ v. refl; plain = λ v. refl },
+          (
+            record { is_form = λ v. refl; plain = λ v. refl },
+            (
+              record { is_form = λ v. refl; plain = λ v. refl },
+              (
+                record { is_form = λ v. refl; plain = λ v. refl },
+                (
+                  record { is_form = λ v. refl; plain = λ v. refl },
+                  (record { is_form = λ v. table_is v.0 v.1.0 v.1.1.0 v.1.1.1; plain = λ v. refl }, (record { is_form = λ v. refl; plain = λ v. refl }, edits_are false)),
+                ),
+              ),
+            ),
+          ),
+        ),
+      ),
+    ),
+  ),
+)
+
+-- a name and operands behind it spell a command, or none
+data Says (front : List Operand → List Operand) (name rest : Bytes) (c : Command) : Type 0 where
+  says : (f : Form) (v : Values f.words) → IsForm front f → name ≡ f.name → IsWritten rest (operands f.words v) → c ≡ f.make v → Says front name rest c
+  says_none : c ≡ Unknown → Says front name rest c
+
+found : (front : List Operand → List Operand) (fs : List Form) → AreForms front fs → (name rest : Bytes) → Says front name rest (named_in fs name rest)
+found front [] are name rest = says_none refl
+found front (f ∷ fs) are name rest = by (bytes_eq name f.name) refl (read_words f.words rest) refl (found front fs are.1 name rest)
+  where
+    by : (b : Bool) → bytes_eq name f.name ≡ b → (o : Option (Values f.words)) → read_words f.words rest ≡ o → Says front name rest (named_in fs name rest)
+        → Says front name rest (if b then made o f.make else named_in fs name rest)
+    by true e (Some v) r more = says f v are.0 (is_word _ _ e) (are_written f.words rest v r) refl
+    by true e None r more = says_none refl
+    by false e o r more = more
+
+-- the text spells a command, or none
 pub data Reads (text : Bytes) : Type 0 where
-  spells : (c : Command) → is_plain c ≡ true → IsWritten text (form c) → Reads text
-  spells_none : NoForm (name_in (first_word text)) (after_word text) → spelled_command text ≡ call.Refused refusal.BadCommand → Reads text
+  spells : (c : Command) → is_plain c ≡ true → IsWritten text (form c) → spelled_command text ≡ c → Reads text
+  spells_none : spelled_command text ≡ Unknown → Reads text
 
 module _ (text : Bytes) where
-  abbrev operands : Bytes
-  operands = after_word text
+  abbrev rest : Bytes
+  rest = after_word text
 
-  refused : (name : Bytes) → first_word text ≡ name → NoForm (name_in name) operands → named_command name operands ≡ call.Refused refusal.BadCommand → Reads text
-  unfolding spelled_command
-  refused name e none bad =
-      spells_none (subst (λ (w : Bytes). NoForm (name_in w) operands) (sym e) none) (ap (λ (w : Bytes). named_command w operands) e ∙ bad)
-
-  pick : {X : Type 0} (name : Bytes) (shape : X → List Operand) (before : call.Call) (command : X → Command) → first_word text ≡ name → Chosen operands shape before
-      → ((x : X) → form (command x) ≡ WORD name ∷ shape x) → ((x : X) → is_plain (command x) ≡ true)
-      → (((x : X) → IsWritten operands (shape x) → ⊥) → NoForm (name_in name) operands) → named_command name operands ≡ before → Reads text
-  pick {X} name shape before command e (inl found) same plain shape_none was_named =
-      spells (command found.0) (plain found.0) (subst (λ (os : List Operand). IsWritten text os) (sym (same found.0)) (e, found.1))
-  pick {X} name shape before command e (inr none) same plain shape_none was_named = refused name e (shape_none none.0) (was_named ∙ none.1)
-
-  base_same : (x : Bytes × Option Bytes) → form (Base x.0 x.1) ≡ WORD (codes "base") ∷ base_form x
-  base_same x = by x.1
-    where
-      by : (o : Option Bytes) → form (Base x.0 o) ≡ WORD (codes "base") ∷ base_form (x.0, o)
-      by None = refl
-      by (Some name) = refl
-
-  use_same : (o : Option Bytes) → form (Use o) ≡ WORD (codes "use") ∷ maybe_form o
-  use_same None = refl
-  use_same (Some name) = refl
-
-  table_same : (x : Cell × Cell × Corners × Option (Cell × Corners)) → form (Table x.0 x.1 x.2 x.3) ≡ WORD (codes "table") ∷ table_form x
-  table_same x = by x.3
-    where
-      by : (o : Option (Cell × Corners)) → form (Table x.0 x.1 x.2 o) ≡ WORD (codes "table") ∷ table_form (x.0, x.1, x.2, o)
-      by None = refl
-      by (Some y) = refl
-
-  -- an edit that is forced
-  abbrev edited : Bytes
-  edited = after_word operands
-
-  pick_forced : {X : Type 0} (name : Bytes) (shape : X → List Operand) (before : call.Call) (command : X → Command) → first_word text ≡ codes "force" → first_word operands ≡ name
-      → Chosen edited shape before → ((x : X) → form (command x) ≡ WORD (codes "force") ∷ WORD name ∷ shape x) → ((x : X) → is_plain (command x) ≡ true)
-      → (((x : X) → IsWritten edited (shape x) → ⊥) → NoEdit (edit_name name) edited) → edit_command true name edited ≡ before → Reads text
-  pick_forced {X} name shape before command e f (inl found) same plain shape_none was_named =
-      spells (command found.0) (plain found.0) (subst (λ (os : List Operand). IsWritten text os) (sym (same found.0)) (e, (f, found.1)))
-  pick_forced {X} name shape before command e f (inr none) same plain shape_none was_named =
-      refused (codes "force") e (subst (λ (w : Bytes). NoEdit (edit_name w) edited) (sym f) (shape_none none.0)) (ap (λ (w : Bytes). edit_command true w edited) f ∙ was_named ∙ none.1)
-
-  by_edit : (w : Bytes) → Edit w → first_word text ≡ codes "force" → first_word operands ≡ w → Reads text
-  by_edit w set_edit e f = pick_forced (codes "set") set_form (set_command true edited) (λ x. Set true x.0 x.1) e f (set_or true edited) (λ x. refl) (λ x. refl) (λ h. h) refl
-  by_edit w clear_edit e f = pick_forced (codes "clear") (λ r. RECT r ∷ []) (clear_command true edited) (λ r. Clear true r) e f (rect_end (λ a. call.Clear true a) edited) (λ x. refl) (λ x. refl) (λ h. h) refl
-  by_edit w fill_edit e f = pick_forced (codes "fill") fill_form (fill_command true edited) (λ x. Fill true x.0 x.1) e f (fill_or true edited) (λ x. refl) (λ x. refl) (λ h. h) refl
-  by_edit w (no_edit v bad other) e f =
-      refused (codes "force") e (subst (λ (u : Bytes). NoEdit (edit_name u) edited) (sym f) (subst (λ (n : Name). NoEdit n edited) (sym other) tt))
-      (ap (λ (u : Bytes). edit_command true u edited) f ∙ bad true edited)
-
-  by_plain_edit : (w : Bytes) → Edit w → first_word text ≡ w → ((more : Bytes) → named_command w more ≡ edit_command false w more) → name_in w ≡ edit_name w → Reads text
-  by_plain_edit w set_edit e named same = pick (codes "set") set_form (set_command false operands) (λ x. Set false x.0 x.1) e (set_or false operands) (λ x. refl) (λ x. refl) (λ h. h) refl
-  by_plain_edit w clear_edit e named same = pick (codes "clear") (λ r. RECT r ∷ []) (clear_command false operands) (λ r. Clear false r) e (rect_end (λ a. call.Clear false a) operands) (λ x. refl) (λ x. refl) (λ h. h) refl
-  by_plain_edit w fill_edit e named same = pick (codes "fill") fill_form (fill_command false operands) (λ x. Fill false x.0 x.1) e (fill_or false operands) (λ x. refl) (λ x. refl) (λ h. h) refl
-  by_plain_edit w (no_edit v bad other) e named same =
-      refused v e (subst (λ (n : Name). NoForm n operands) (sym (same ∙ other)) tt) (named operands ∙ bad false operands)
-
-  by_word : (w : Bytes) → Word w → first_word text ≡ w → Reads text
-  by_word w a_force e = by_edit (first_word operands) (edit_of (first_word operands)) e refl
-  by_word w a_scenario e = pick (codes "scenario") scenario_form (scenario_command operands) (λ x. Scenario x.0 x.1 x.2) e (scenario_or operands) (λ x. refl) (λ x. refl) (λ h. h) refl
-  by_word w a_drop e = pick (codes "drop") (λ n. NAME n ∷ []) (drop_command operands) (λ n. Drop n) e (name_end (λ n. call.Drop n) operands) (λ x. refl) (λ x. refl) (λ h. h) refl
-  by_word w a_base e = pick (codes "base") base_form (base_command operands) (λ x. Base x.0 x.1) e (base_or operands) base_same (λ x. refl) (λ h. h) refl
-  by_word w a_use e = pick (codes "use") maybe_form (use_command operands) (λ o. Use o) e (use_or operands) use_same (λ x. refl) (λ h. h) refl
-  by_word w a_as e = pick (codes "as") (λ n. SESSION n ∷ []) (as_command operands) (λ n. As n) e (name_end (λ n. call.As n) operands) (λ x. refl) (λ x. refl) (λ h. h) refl
-  by_word w a_show e = pick (codes "show") (λ r. RECT r ∷ []) (show_command operands) (λ r. Show r) e (rect_end (λ a. call.Show a) operands) (λ x. refl) (λ x. refl) (λ h. h) refl
-  by_word w a_export e = pick (codes "export") (λ r. RECT r ∷ []) (export_command operands) (λ r. Export r) e (rect_end (λ a. call.Export a) operands) (λ x. refl) (λ x. refl) (λ h. h) refl
-  by_word w a_changes e = pick (codes "changes") no_form (changes_command operands) (λ x. Changes) e (changes_or operands) (λ x. refl) (λ x. refl) (λ h. h) refl
-  by_word w a_compare e = pick (codes "compare") compare_form (compare_command operands) (λ x. Compare x.0 x.1 x.2) e (compare_or operands) (λ x. refl) (λ x. refl) (λ h. h) refl
-  by_word w a_table e = pick (codes "table") table_form (table_command operands) (λ x. Table x.0 x.1 x.2 x.3) e (table_or operands) table_same (λ x. refl) (λ h. h) refl
-  by_word w a_formula e = pick (codes "formula") cell_form (formula_command operands) (λ c. Formula c) e (formula_or operands) (λ x. refl) (λ x. refl) (λ h. h) refl
-  by_word w (an_edit v edit named same) e = by_plain_edit v edit e named same
+  abbrev chosen : Bool → Command
+  chosen b = if b then named_in (edit_forms true) (first_word rest) (after_word rest) else named_in forms (first_word text) rest
 
   pub reads : Reads text
-  reads = by_word (first_word text) (word_of (first_word text)) refl
+  unfolding spelled_command
+  reads = by (bytes_eq (first_word text) (codes "force")) refl (found (may_force true) (edit_forms true) (edits_are true) (first_word rest) (after_word rest))
+      (found (may_force false) forms all_are (first_word text) rest)
+    where
+      by : (b : Bool) → bytes_eq (first_word text) (codes "force") ≡ b → Says (may_force true) (first_word rest) (after_word rest) (chosen true) → Says (may_force false) (first_word text) rest (chosen false) → Reads text
+      by true e (says f v is n w c) more =
+          spells (f.make v) (is.plain v) (subst (λ (os : List Operand). IsWritten text os) (sym (is.is_form v)) (is_word _ _ e, (n, w))) (ap chosen e ∙ c)
+      by true e (says_none c) more = spells_none (ap chosen e ∙ c)
+      by false e other (says f v is n w c) =
+          spells (f.make v) (is.plain v) (subst (λ (os : List Operand). IsWritten text os) (sym (is.is_form v)) (n, w)) (ap chosen e ∙ c)
+      by false e other (says_none c) = spells_none (ap chosen e ∙ c)

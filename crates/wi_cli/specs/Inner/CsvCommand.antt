@@ -1,12 +1,7 @@
 -- The command `csv`: its line, and the lines of data behind it.
-use Rattle.std.specs.Prelude.{ℕ, Bool, true, false, ◌==◌, ◌&&◌, nat_lt, nat_le, List, length, Option, Some, None, Result, Ok, Err, if◌then◌else◌, codes}
-use Rattle.std.specs.List.{list_any, concat}
+use Rattle.std.specs.Prelude.{ℕ, Bool, true, false, ◌&&◌, nat_lt, nat_le, List, length, Option, Some, None, if◌then◌else◌, codes}
 use Rattle.std.specs.Str.{bytes_eq, all_ascii_digits}
 use Rattle.std.specs.Str.Parse.{digits_value}
-use Rattle.wi_values.specs.declared.address.AddressFault.{AddressFault}
-use Rattle.wi_values.specs.declared.address.AddressFault.TheVariants.{Shape, Outside}
-use Rattle.wi_scenarios.specs.declared.refusal.Refusal.TheVariants.{BadCommand, BadLine, OutOfSheet, CutShort}
-use Rattle.wi_cli.specs.Inner.Calls.{Call, Csv, Refused, RefusedData}
 use Rattle.wi_cli.specs.Lines.{without_lf, without_cr, max_line, first_word, after_word}
 use Rattle.wi_cli.specs.Inner.Operands.{is_all_spaces}
 
@@ -50,17 +45,6 @@ csv_text text = csv_by_name (first_word text) (after_word text)
 unfoldable pub csv_line : List ℕ → Option CsvLine
 csv_line content = if nat_lt max_line (length content) then None else csv_text (without_cr content)
 
--- ---- what it is as a command
-
 -- a data line that is too long, a CR counted
 abbrev pub is_long : List ℕ → Bool
 is_long line = nat_lt max_line (length (without_lf line))
-
--- The command of ADDR, its data lines, and how many of them are missing. Where ADDR is a cell its data lines are held.
-abbrev pub csv_command : Bool → Result ℕ AddressFault → List (List ℕ) → ℕ → Call
-csv_command force (Ok at) lines missing =
-    if list_any is_long lines then RefusedData BadLine
-    else (if missing == 0 then Csv force at (concat lines) else RefusedData CutShort)
-csv_command force (Err Shape) lines missing = if list_any is_long lines then Refused BadLine else Refused BadCommand
-csv_command force (Err Outside) lines missing =
-    if list_any is_long lines then Refused BadLine else (if missing == 0 then Refused OutOfSheet else Refused CutShort)

@@ -5,17 +5,20 @@ use Rattle.wi_values.specs.AddressReading.{read_address}
 use Rattle.wi_values.specs.declared.address.AddressFault.{AddressFault}
 use Rattle.wi_values.specs.declared.address.AddressFault.TheVariants.{Shape, Outside}
 use Rattle.wi_scenarios.specs.declared.refusal.Refusal.{Refusal}
-use Rattle.wi_scenarios.specs.declared.refusal.Refusal.TheVariants.{BadCommand, BadLine, OutOfSheet, CutShort}
+use Rattle.wi_scenarios.specs.declared.refusal.Refusal.TheVariants.{BadCommand, OutOfSheet, CutShort}
 use Rattle.wi_scenarios.specs.State.{State}
-use Rattle.wi_cli.specs.Inner.Calls.{Call, Csv}
-use Rattle.wi_cli.specs.Inner.Calls as spell
+use Rattle.wi_scenarios.specs.Answer.{Answer}
+use Rattle.wi_scenarios.specs.Commands.Operands.{Cell}
+use Rattle.wi_scenarios.specs.Commands.Command.{Command, Csv, Unreadable}
+use Rattle.wi_scenarios.specs.Commands.Step.{IsStep, IsImportStep}
 use Rattle.wi_cli.specs.declared.csv_line.CsvLine.{CsvLine as ReadCsv}
 use Rattle.wi_cli.specs.declared.data_lines.Held.{Held}
 use Rattle.wi_cli.specs.declared.data_lines.Held.TheVariants.{All, Lacking, TooLong}
 use Rattle.wi_cli.specs.declared.data_lines.DataLines.{DataLines}
 use Rattle.wi_cli.specs.declared.fault.RunFault.{RunFault}
 use Rattle.wi_cli.specs.Lines.{raw_lines}
-use Rattle.wi_cli.specs.Inner.CsvCommand.{CsvLine, is_long, csv_command}
+use Rattle.wi_cli.specs.Reply.{MayLackMemory}
+use Rattle.wi_cli.specs.Inner.CsvCommand.{CsvLine, is_long}
 use Rattle.wi_cli.specs.Inner.Told.{RefusedAs}
 use Rattle.wi_cli.specs.Inner.Taken.{TookLines, BrokeLines}
 
@@ -25,9 +28,9 @@ IsCsv o None = o ≡ None
 IsCsv o (Some csv) =
     (word : List ℕ) × (o ≡ Some (record { force = csv.force; address = word; lines = csv.lines })) × (csv.at ≡ read_address word)
 
--- what it is as a command, with its data lines and how many of them are missing
-abbrev pub command_of_csv : ReadCsv → List (List ℕ) → ℕ → Call
-command_of_csv csv lines missing = if csv.is_text then csv_command csv.force csv.at lines missing else spell.Refused BadLine
+-- what it is as a command, with this cell, if its word spells one, and its data lines
+abbrev pub command_of_csv : ReadCsv → Option Cell → List (List ℕ) → Command
+command_of_csv csv at lines = if csv.is_text then Csv csv.force at csv.lines lines else Unreadable
 
 -- its data lines are to be held
 abbrev pub wants : ReadCsv → Bool
@@ -68,6 +71,6 @@ target_of (Err Shape) missing = Err BadCommand
 target_of (Err Outside) missing = if missing == 0 then Err OutOfSheet else Err CutShort
 
 -- the command puts these bytes there, or is refused whatever the state is
-abbrev pub IsTarget : Call → Bool → List ℕ → Result ℕ Refusal → Type 0
-IsTarget c force bytes (Ok at) = c ≡ Csv force at bytes
+abbrev pub IsTarget : Command → Bool → List ℕ → Result ℕ Refusal → Type 0
+IsTarget c force bytes (Ok at) = (s : State) → MayLackMemory s c × ((a : Answer) → IsImportStep s force at bytes a → IsStep s c a)
 IsTarget c force bytes (Err e) = (s : State) → RefusedAs e s c

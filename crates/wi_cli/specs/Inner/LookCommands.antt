@@ -1,30 +1,31 @@
 -- The commands that show what a workbook holds.
-use Rattle.std.specs.Prelude.{ℕ, List}
+use Rattle.std.specs.Prelude.{ℕ, List, Ok}
 use Rattle.wi_values.specs.AddressReading.{read_address, read_rect}
-use Rattle.wi_cli.specs.Inner.Calls.{Call, Show, Export, Changes, Compare, Formula}
+use Rattle.wi_scenarios.specs.Commands.Operands.{cell, corners}
+use Rattle.wi_scenarios.specs.Commands.Command.{Show, Export, Changes, Compare, Formula}
 use Rattle.wi_cli.specs.Lines.{first_word, after_word}
-use Rattle.wi_cli.specs.Inner.Operands.{at_end, of_operand, of_name, read_side}
+use Rattle.wi_cli.specs.Inner.Operands.{Reading, at_end, of_operand, of_name, read_side}
 
 -- `show RECT`
-abbrev pub show_command : List ℕ → Call
-show_command operands = at_end (after_word operands) (of_operand (read_rect (first_word operands)) (λ area. Show area))
+abbrev pub show_command : List ℕ → Reading
+show_command operands = at_end (after_word operands) (of_operand (read_rect (first_word operands)) (λ area. Ok (Show (corners area))))
 
 -- `export RECT`
-abbrev pub export_command : List ℕ → Call
-export_command operands = at_end (after_word operands) (of_operand (read_rect (first_word operands)) (λ area. Export area))
+abbrev pub export_command : List ℕ → Reading
+export_command operands = at_end (after_word operands) (of_operand (read_rect (first_word operands)) (λ area. Ok (Export (corners area))))
 
 -- `changes`
-abbrev pub changes_command : List ℕ → Call
-changes_command operands = at_end operands Changes
+abbrev pub changes_command : List ℕ → Reading
+changes_command operands = at_end operands (Ok Changes)
 
 -- `compare S T RECT`, where S and T are names of scenarios, or `-`
-abbrev pub compare_command : List ℕ → Call
+abbrev pub compare_command : List ℕ → Reading
 compare_command operands =
     at_end (after_word (after_word (after_word operands)))
     (of_name (read_side (first_word operands)) (λ first.
     of_name (read_side (first_word (after_word operands))) (λ second.
-    of_operand (read_rect (first_word (after_word (after_word operands)))) (λ area. Compare first second area))))
+    of_operand (read_rect (first_word (after_word (after_word operands)))) (λ area. Ok (Compare first second (corners area))))))
 
 -- `formula ADDR`
-abbrev pub formula_command : List ℕ → Call
-formula_command operands = at_end (after_word operands) (of_operand (read_address (first_word operands)) (λ at. Formula at))
+abbrev pub formula_command : List ℕ → Reading
+formula_command operands = at_end (after_word operands) (of_operand (read_address (first_word operands)) (λ at. Ok (Formula (cell at))))

@@ -1,30 +1,72 @@
--- The operands of commands.
-use Rattle.std.specs.Prelude.{ℕ, Bool, List, Option, Some, None, option_map, Result, Ok, Err, if◌then◌else◌, codes}
-use Rattle.std.specs.List.{list_all}
-use Rattle.std.specs.Str.{bytes_eq}
-use Rattle.wi_values.specs.Address.{Area}
+-- The operands of commands, as they are read.
+use Rattle.std.specs.Prelude.{ℕ, Bool, ◌+◌, ◌-◌, ◌==◌, ◌&&◌, ◌||◌, nat_lt, take, drop, List, Option, Some, None, option_map, Result, Ok, Err, if◌then◌else◌, codes}
+use Rattle.std.specs.List.{list_all, prefix_len, position}
+use Rattle.std.specs.Char.{is_ascii_alphabetic}
+use Rattle.std.specs.Str.{byte, bytes_eq}
+use Rattle.std.specs.Str.Parse.{digits_value}
+use Rattle.wi_values.specs.Address.{Area, letters_value, is_row_number}
 use Rattle.wi_values.specs.Name.{read_name}
 use Rattle.wi_values.specs.declared.address.AddressFault.{AddressFault}
 use Rattle.wi_values.specs.declared.address.AddressFault.TheVariants.{Shape, Outside}
+use Rattle.wi_scenarios.specs.declared.refusal.Refusal.{Refusal}
 use Rattle.wi_scenarios.specs.declared.refusal.Refusal.TheVariants.{BadCommand}
 use Rattle.wi_scenarios.specs.Answer.{operand_refusal}
-use Rattle.wi_cli.specs.Inner.Calls.{Call, Refused}
+use Rattle.wi_scenarios.specs.Commands.Operands.{Cell, Corners, is_outside, address, area}
+use Rattle.wi_scenarios.specs.Commands.Command.{Command}
 use Rattle.wi_cli.specs.Lines.{is_space, first_word, after_word}
 
 -- no word is there
 abbrev pub is_all_spaces : List ℕ → Bool
 is_all_spaces text = list_all is_space text
 
--- the command, where no word is left
-abbrev pub at_end : List ℕ → Call → Call
-at_end more command = if is_all_spaces more then command else Refused BadCommand
-
 -- ---- cells
 
+-- the cell that a word spells, of any size
+unfoldable pub spelled_cell : List ℕ → Option Cell
+spelled_cell word =
+    let k = prefix_len is_ascii_alphabetic word in
+    if nat_lt 0 k && is_row_number (drop k word)
+    then Some (record { row = digits_value 10 (drop k word) - 1; column = letters_value (take k word) - 1 }) else None
+
+abbrev pub both : {X Y : Type 0} → Option X → Option Y → Option (X × Y)
+both (Some x) (Some y) = Some (x, y)
+both (Some x) None = None
+both None o = None
+
+-- the corners of a word whose first colon is known: without one it is a single cell's
+abbrev pub spelled_corners : List ℕ → Option ℕ → Option Corners
+spelled_corners word None = both (spelled_cell word) (spelled_cell word)
+spelled_corners word (Some k) = both (spelled_cell (take k word)) (spelled_cell (drop (k + 1) word))
+
+unfoldable pub spelled_rect : List ℕ → Option Corners
+spelled_rect word = spelled_corners word (position (λ c. c == byte ":") word)
+
+-- what is outside the sheet isn't read
+abbrev pub read_by : {X : Type 0} → Bool → X → Result X AddressFault
+read_by outside x = if outside then Err Outside else Ok x
+
+-- a cell, and a rectangle, as the code has read it
+abbrev pub read_any : Option Cell → Result ℕ AddressFault
+read_any None = Err Shape
+read_any (Some c) = read_by (is_outside c) (address c)
+
+abbrev pub read_any_area : Option Corners → Result Area AddressFault
+read_any_area None = Err Shape
+read_any_area (Some r) = read_by (is_outside r.0 || is_outside r.1) (area r)
+
+-- ---- what is read: a command of operands of the sheet, or a refusal
+
+abbrev pub Reading : Type 0
+Reading = Result Command Refusal
+
+-- the command, where no word is left
+abbrev pub at_end : List ℕ → Reading → Reading
+at_end more command = if is_all_spaces more then command else Err BadCommand
+
 -- a command of an operand, where it is one
-abbrev pub of_operand : {X : Type 0} → Result X AddressFault → (X → Call) → Call
+abbrev pub of_operand : {X : Type 0} → Result X AddressFault → (X → Reading) → Reading
 of_operand (Ok x) command = command x
-of_operand (Err fault) command = Refused (operand_refusal fault)
+of_operand (Err fault) command = Err (operand_refusal fault)
 
 -- why a rectangle that is to be one column, or one row, is refused, if it is
 abbrev pub line_fault : (Area → Bool) → Result Area AddressFault → Option AddressFault
@@ -39,16 +81,16 @@ worse (Some Outside) None = Some Outside
 worse (Some Outside) (Some fault) = Some fault
 
 -- the command, unless an operand is refused
-abbrev pub unless_refused : Option AddressFault → Call → Call
+abbrev pub unless_refused : Option AddressFault → Reading → Reading
 unless_refused None command = command
-unless_refused (Some fault) command = Refused (operand_refusal fault)
+unless_refused (Some fault) command = Err (operand_refusal fault)
 
 -- ---- names
 
 -- a command of what is named, where it is a name
-abbrev pub of_name : {X : Type 0} → Option X → (X → Call) → Call
+abbrev pub of_name : {X : Type 0} → Option X → (X → Reading) → Reading
 of_name (Some x) command = command x
-of_name None command = Refused BadCommand
+of_name None command = Err BadCommand
 
 -- the name that is the only word
 abbrev pub only_name : List ℕ → Option (List ℕ)

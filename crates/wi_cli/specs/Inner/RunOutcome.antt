@@ -3,7 +3,7 @@ use Rattle.std.specs.Prelude.{◌≡◌, ℕ, ◌<◌, ◌≤◌, List, [], ◌+
 use Rattle.std.specs.Option.{option_to_list}
 use Rattle.std.specs.Io.KnownBytes.{IsAtEnd}
 use Rattle.wi_scenarios.specs.State.{State}
-use Rattle.wi_cli.specs.Inner.Calls.{Call}
+use Rattle.wi_scenarios.specs.Commands.Command.{Command}
 use Rattle.wi_cli.specs.declared.fault.RunFault.{RunFault}
 use Rattle.wi_cli.specs.declared.fault.RunFault.TheVariants.{Memory, Read, Write, ScriptLimit}
 use Rattle.wi_cli.specs.Lines.{raw_lines, max_lines}
@@ -12,10 +12,10 @@ use Rattle.wi_cli.specs.Inner.Run.{WritesReplies}
 
 -- Each reply was written whole but the last, of which a front was, and no command was served after it. There is no
 -- last where the flush at the end failed.
-pub record WritesFrontOfReplies (s : State) (cs : List Call) (out : List ℕ) (t : State) : Type 0 where
-  pub earlier : List Call
-  pub last : Option Call
-  pub others : List Call
+pub record WritesFrontOfReplies (s : State) (cs : List Command) (out : List ℕ) (t : State) : Type 0 where
+  pub earlier : List Command
+  pub last : Option Command
+  pub others : List Command
   pub first : cs ≡ earlier ++ (option_to_list last ++ others)
   pub mid : State
   pub sent : List ℕ

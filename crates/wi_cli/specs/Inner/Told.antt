@@ -1,30 +1,41 @@
 -- What is told of one line.
-use Rattle.std.specs.Prelude.{◌≡◌, ℕ, List, [], ◌++◌, Option, Some, None, Result, Ok, Err}
+use Rattle.std.specs.Prelude.{◌≡◌, ℕ, true, List, [], ◌++◌, Option, Some, None, Result, Ok, Err}
+use Rattle.wi_sessions.specs.Sessions.{has_session}
 use Rattle.wi_scenarios.specs.declared.refusal.Refusal.{Refusal}
 use Rattle.wi_scenarios.specs.declared.refusal.Refusal.TheVariants.{Memory}
 use Rattle.wi_scenarios.specs.State.{State}
-use Rattle.wi_cli.specs.Inner.Calls.{Call, IsCallStep, CallMayLackMemory}
+use Rattle.wi_scenarios.specs.Answer.{Serves}
+use Rattle.wi_scenarios.specs.Commands.Command.{Command, Csv, Drop, As}
+use Rattle.wi_scenarios.specs.Commands.Step.{IsStep}
 use Rattle.wi_cli.specs.declared.reply.Reply.{Reply}
 use Rattle.wi_cli.specs.declared.reply.Reply.TheVariants.{Passed, Done, Refused}
 use Rattle.wi_cli.specs.Inner.Reply.{refused, ok_line}
+use Rattle.wi_cli.specs.Reply.{MayLackMemory}
+
+-- where a call of the workbook is never refused as out of memory; data lines have no such call
+abbrev pub KeepsMemory : Command → Result (Unit {0}) Refusal → State → Type 0
+KeepsMemory (Drop name) r s = r ≡ Err Memory → ⊥
+KeepsMemory (As name) r s = has_session s.sessions name ≡ true → (r ≡ Err Memory → ⊥)
+KeepsMemory (Csv force at n lines) r s = ⊥
+KeepsMemory c r s = Unit {0}
+
+-- a call of the workbook did the command, or refused it
+pub record IsServed (c : Command) (r : Result (Unit {0}) Refusal) (s t : State) (records : List ℕ) : Type 0 where
+  pub serves : Serves (IsStep s c) r s t records
+  pub keeps : KeepsMemory c r s
 
 -- some commands may be refused as out of memory; another refusal is the step's
-abbrev pub RefusedAs : Refusal → State → Call → Type 0
-RefusedAs Memory s c = CallMayLackMemory s c
-RefusedAs e s c = IsCallStep s c (Err e)
-
--- the command is answered by the step, or as out of memory
-abbrev pub IsServed : Call → Result (Unit {0}) Refusal → State → State → List ℕ → Type 0
-IsServed c (Ok _) s t records = IsCallStep s c (Ok (t, records))
-IsServed c (Err e) s t records = (t ≡ s) × RefusedAs e s c
+abbrev pub RefusedAs : Refusal → State → Command → Type 0
+RefusedAs Memory s c = MayLackMemory s c
+RefusedAs e s c = IsStep s c (Err e)
 
 -- the line is passed over, or its command is answered by the step, or as out of memory
-abbrev pub Told : Option Call → Reply → State → State → List ℕ → Type 0
+abbrev pub Told : Option Command → Reply → State → State → List ℕ → Type 0
 Told None Passed s t out = t ≡ s
 Told None Done s t out = ⊥
 Told None (Refused e) s t out = ⊥
 Told (Some c) Passed s t out = ⊥
-Told (Some c) Done s t out = IsCallStep s c (Ok (t, out))
+Told (Some c) Done s t out = IsStep s c (Ok (t, out))
 Told (Some c) (Refused e) s t out = (t ≡ s) × RefusedAs e s c
 
 -- the bytes that tell it

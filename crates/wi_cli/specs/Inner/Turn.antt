@@ -6,7 +6,7 @@ use Rattle.wi_cli.specs.declared.fault.RunFault.{RunFault}
 use Rattle.wi_cli.specs.declared.fault.RunFault.TheVariants.{Memory, Read, Write, ScriptLimit}
 use Rattle.wi_cli.specs.declared.reply.Reply.{Reply}
 use Rattle.wi_scenarios.specs.State.{State}
-use Rattle.wi_cli.specs.Inner.Calls.{Call}
+use Rattle.wi_scenarios.specs.Commands.Command.{Command}
 use Rattle.wi_cli.specs.Lines.{raw_lines}
 use Rattle.wi_cli.specs.Inner.Blocks.{Block, blocks, is_complete}
 use Rattle.wi_cli.specs.Inner.Front.{AppendsFront}
@@ -16,7 +16,7 @@ use Rattle.wi_cli.specs.Inner.Taken.{AreBlocksOf, TookLines, BrokeLines}
 use Rattle.wi_cli.specs.Inner.Told.{reply_bytes}
 
 -- a block was taken, or nothing was there; this is its command, if it has one
-pub record TookBlock (command : Option Call) (whole : Bool) (buffer : List ℕ) (left : Option (List ℕ)) (buffer' : List ℕ) (left' : Option (List ℕ)) (count count' : ℕ) : Type 0 where
+pub record TookBlock (command : Option Command) (whole : Bool) (buffer : List ℕ) (left : Option (List ℕ)) (buffer' : List ℕ) (left' : Option (List ℕ)) (count count' : ℕ) : Type 0 where
   pub took : TookLines whole buffer left buffer' left' count count'
   pub taken : List Block
   pub are_blocks : AreBlocksOf whole (took.lines ++ raw_lines took.last) taken
@@ -30,7 +30,7 @@ pub record BrokeBlock (fault : RunFault) (buffer : List ℕ) (left : Option (Lis
 
 -- a block was taken, whole or up to the end, and served
 pub record Turned (whole : Bool) (buffer : List ℕ) (left : Option (List ℕ)) (buffer' : List ℕ) (left' : Option (List ℕ)) (count count' : ℕ) (s t : State) (given given' : Option (List ℕ)) : Type 0 where
-  pub command : Option Call
+  pub command : Option Command
   pub block : TookBlock command whole buffer left buffer' left' count count'
   pub out : List ℕ
   pub written : Appends given given' out
@@ -40,7 +40,7 @@ pub record Turned (whole : Bool) (buffer : List ℕ) (left : Option (List ℕ)) 
 pub record CutShort (buffer : List ℕ) (left : Option (List ℕ)) (buffer' : List ℕ) (left' : Option (List ℕ)) (count : ℕ) (s t : State) (given given' : Option (List ℕ)) : Type 0 where
   pub whole : Bool
   pub count' : ℕ
-  pub command : Option Call
+  pub command : Option Command
   pub block : TookBlock command whole buffer left buffer' left' count count'
   pub out : List ℕ
   pub unwritten : List ℕ

@@ -1,6 +1,7 @@
-use Rattle.wi_cli.proofs.Vocabulary.{◌∙◌, ap, subst, [], None, Some, rules, err_from_is_err_and, command_of_csv, Book, Told}
+use Rattle.wi_cli.proofs.Vocabulary.{◌∙◌, ap, subst, [], None, Some, rules, err_from_is_err_and, command_of_csv, Book, Told, spelled_cell}
 use Rattle.wi_cli.proofs.TakenLemmas.{first_broke, data_broke, csv_block, data_of}
 use Rattle.wi_cli.proofs.DataLemmas.{csv_read}
+use Rattle.wi_cli.proofs.Ties.Addresses.{same_addr}
 use Rattle.wi_cli.proofs.TurnLemmas.{answered, answered_reads, asked_block, passed, stopped, broke_no_memory}
 use Rattle.wi_cli.proofs.runs.turn.Goals as goal
 
@@ -47,10 +48,10 @@ returns-in-Ok-clause-done g c =
     let is = csv_read _ k.content (c.deref.ensures.value ∙ k.kept) c.in-Csv.csv a.0 a.1 in
     let h = c.in-Ok.ensures.took in
     let d = c.read_data.new.data_lines in
-    answered c.answer-in-Csv.result _ _ _ _ _ _ _ _ _ _ _ (Some (command_of_csv c.in-Csv.csv (data_of h.took) d.missing)) c.serve_csv-reply.result []
+    answered c.answer-in-Csv.result _ _ _ _ _ _ _ _ _ _ _ (Some (command_of_csv c.in-Csv.csv (spelled_cell is.word) (data_of h.took))) c.serve_csv-reply.result []
     (csv_block c.in_ok-whole.whole c.in-Ok.end _ _ _ _ _ _ _ c.args.buffers.now.script.lines _ _ c.requires.few k c.in_ok-whole.ensures.took.1 c.in-Csv.csv is d h c.in-Ok.ensures.all)
-    (subst (λ (b : Book). Told (Some (command_of_csv c.in-Csv.csv (data_of h.took) d.missing)) c.serve_csv-reply.result b.state c.serve_csv-reply.new.book.state []) c.read_data.ensures.book
-    (c.serve_csv-reply.ensures (data_of h.took) c.in-Ok.ensures.wanted h.held)) c.answer-in-Csv.ensures.done
+    (subst (λ (b : Book). Told (Some (command_of_csv c.in-Csv.csv (spelled_cell is.word) (data_of h.took))) c.serve_csv-reply.result b.state c.serve_csv-reply.new.book.state []) c.read_data.ensures.book
+    (c.serve_csv-reply.ensures (spelled_cell is.word) (data_of h.took) (is.at ∙ (same_addr is.word).read) c.in-Ok.ensures.wanted h.held h.missing)) c.answer-in-Csv.ensures.done
 
 pub returns-in-Ok-clause-reads : goal.returns-in-Ok-clause-reads
 returns-in-Ok-clause-reads g c = answered_reads c.answer-in-Csv.result _ _ _ _ _ c.answer-in-Csv.ensures.done c.in-Ok.ensures.reads

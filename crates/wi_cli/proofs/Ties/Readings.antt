@@ -1,0 +1,294 @@
+-- As what the operands behind a name are read, and the command that they spell.
+use Rattle.wi_cli.proofs.Vocabulary.{◌≡◌, Bool, Err, None, Ok, Option, Result, Some, [], ap, ap₂, arith, false, if◌then◌else◌, inl, inr, length, option_map, refl, subst, sym, true, ℕ, ◌==◌, ◌||◌, ◌∙◌, ◌∷◌, or-false, nat_tests, list_any, result_err, clear_command, fill_command, fill_command_of, set_command, A_NAME, END, MAYBE, as_form, base_form, changes_form, clear_form, compare_form, drop_form, export_form, fill_form, formula_form, scenario_form, set_form, show_form, table_form, use_form, changes_command, compare_command, export_command, formula_command, show_command, Reading, is_all_spaces, line_fault, of_name, of_operand, read_any, read_any_area, read_by, read_side, spelled_cell, spelled_rect, as_command, base_command, drop_command, scenario_command, use_command, IsRead, IsReadAs, IsReading, table_command, table_of_one, table_of_two, Bytes, after_word, first_word, lacks, BadCommand, BadLine, lies_outside, As, Base, Changes, Clear, Command, Compare, Drop, Export, Fill, Formula, Scenario, Set, Show, Unknown, Unreadable, Use, Cell, Corners, is_outside, IsStep, State, Refusal, Area, is_column, is_row, read_address, read_rect, read_name, AddressFault, Shape, made, spelled, at_end, both, form, address, area, Values, AND, A_CELL, A_RECT}
+use Rattle.wi_values.specs.declared.address.AddressFault.TheVariants.{Outside}
+use Rattle.wi_scenarios.specs.declared.refusal.Refusal.TheVariants as refusal
+use Rattle.wi_scenarios.specs.Commands.Operands.{cell, corners}
+use Rattle.wi_cli.specs.declared.command.Command.{Command as ReadCommand}
+use Rattle.wi_scenarios.proofs.EditSteps.{outside_first}
+use Rattle.wi_scenarios.proofs.SetSteps.{set_none}
+use Rattle.wi_scenarios.proofs.ClearSteps.{clear_outside, clear_step}
+use Rattle.wi_scenarios.proofs.FillSteps.{fill_outside, fill_out}
+use Rattle.wi_scenarios.proofs.LookSteps.{show_step, export_step, compare_step}
+use Rattle.wi_cli.proofs.Ties.Cells.{lies_out, read_cell, read_area}
+use Rattle.wi_cli.proofs.Ties.Addresses.{same_addr}
+use Rattle.wi_cli.proofs.Ties.Rects.{same_rect}
+use Rattle.wi_cli.proofs.Ties.Tables.{is_large, worst, has_shape, one_faults, two_faults, one_as, two_as, one_read, two_read}
+
+pub unknown : IsReadAs Unknown (Err refusal.BadCommand)
+unknown s = (BadCommand, inr (λ h. h, inl (tt, refl)), refl)
+
+pub unreadable : IsReadAs Unreadable (Err refusal.BadLine)
+unreadable s = (BadLine, inl (tt, refl), refl)
+
+pub read_as : (c : Command) (w : Reading) (r : Result ReadCommand Refusal) → IsReadAs c w → IsReading w r → IsRead c r
+read_as c w (Ok d) h k = subst (λ (v : Reading). IsReadAs c v) k h
+read_as c w (Err e) h k = (subst (λ (v : Reading). IsReadAs c v) k.0 h, k.1)
+
+-- a reading that is refused as no command
+bad : (c : Command) (w : Reading) → w ≡ Err refusal.BadCommand → c ≡ Unknown → IsReadAs c w
+bad c w e same = subst (λ (v : Reading). IsReadAs c v) (sym e) (subst (λ (d : Command). IsReadAs d (Err refusal.BadCommand)) (sym same) unknown)
+
+-- whether no word is left
+abbrev ended : Bool → Option (Unit {0})
+ended b = if b then Some tt else None
+
+-- ---- a cell or a rectangle of the sheet, or outside
+
+module _ (c : Cell) (f : Cell → Command) (outside : is_outside c ≡ true → (s : State) → IsStep s (f c) (Err refusal.OutOfSheet)) (within : is_outside c ≡ false → IsReadAs (f c) (Ok (f (cell (address c))))) where
+  of_cell : IsReadAs (f c) (of_operand (read_cell c) (λ at. Ok (f (cell at))))
+  of_cell = by (is_outside c) refl
+    where
+      by : (b : Bool) → is_outside c ≡ b → IsReadAs (f c) (of_operand (read_by b (address c)) (λ at. Ok (f (cell at))))
+      by true e = outside e
+      by false e = within e
+
+module _ (r : Corners) (f : Corners → Command) (outside : lies_out r ≡ true → (s : State) → IsStep s (f r) (Err refusal.OutOfSheet)) (within : lies_out r ≡ false → IsReadAs (f r) (Ok (f (corners (area r))))) where
+  of_rect : IsReadAs (f r) (of_operand (read_area r) (λ a. Ok (f (corners a))))
+  of_rect = by (lies_out r) refl
+    where
+      by : (b : Bool) → lies_out r ≡ b → IsReadAs (f r) (of_operand (read_by b (area r)) (λ a. Ok (f (corners a))))
+      by true e = outside e
+      by false e = within e
+
+-- one rectangle, and no word behind it
+module _ (f : Corners → Command) (is : (r : Corners) → IsReadAs (f r) (of_operand (read_area r) (λ a. Ok (f (corners a))))) where
+  rect_end : (b : Bool) (o : Option Corners) (w : Result Area AddressFault) → w ≡ read_any_area o
+      → IsReadAs (made (both o (ended b)) (λ v. f v.0)) (if b then of_operand w (λ a. Ok (f (corners a))) else Err refusal.BadCommand)
+  rect_end false None w e = unknown
+  rect_end false (Some r) w e = unknown
+  rect_end true None w e = bad _ _ (ap (λ (x : Result Area AddressFault). of_operand x (λ a. Ok (f (corners a)))) e) refl
+  rect_end true (Some r) w e = subst (λ (x : Result Area AddressFault). IsReadAs (f r) (of_operand x (λ a. Ok (f (corners a))))) (sym e) (is r)
+
+  rect_read : (text : Bytes) → IsReadAs (made (both (spelled_rect (first_word text)) (ended (is_all_spaces (after_word text)))) (λ v. f v.0)) (at_end (after_word text) (of_operand (read_rect (first_word text)) (λ a. Ok (f (corners a)))))
+  rect_read text = rect_end (is_all_spaces (after_word text)) (spelled_rect (first_word text)) (read_rect (first_word text)) ((same_rect (first_word text)).read)
+
+pub clear_read : (force : Bool) (text : Bytes) → IsReadAs (spelled (clear_form force) text) (clear_command force text)
+clear_read force text = rect_read (λ r. Clear force r) (λ r. of_rect r (λ r. Clear force r) (λ e s. clear_step s force r true e) (λ e. (clear_outside force false r e, refl))) text
+
+pub show_read : (text : Bytes) → IsReadAs (spelled show_form text) (show_command text)
+show_read text = rect_read (λ r. Show r) (λ r. of_rect r (λ r. Show r) (λ e s. show_step s r true (is_large r) e refl) (λ e. (or-false _ ∙ e, refl))) text
+
+pub export_read : (text : Bytes) → IsReadAs (spelled export_form text) (export_command text)
+export_read text = rect_read (λ r. Export r) (λ r. of_rect r (λ r. Export r) (λ e s. export_step s r true (is_large r) e refl) (λ e. (or-false _ ∙ e, refl))) text
+
+-- ---- a cell
+
+pub formula_read : (text : Bytes) → IsReadAs (spelled formula_form text) (formula_command text)
+formula_read text = by (is_all_spaces (after_word text)) (spelled_cell (first_word text)) (read_address (first_word text)) ((same_addr (first_word text)).read)
+  where
+    by : (b : Bool) (o : Option Cell) (w : Result ℕ AddressFault) → w ≡ read_any o
+        → IsReadAs (made (both o (ended b)) (λ v. Formula v.0)) (if b then of_operand w (λ at. Ok (Formula (cell at))) else Err refusal.BadCommand)
+    by false None w e = unknown
+    by false (Some c) w e = unknown
+    by true None w e = bad _ _ (ap (λ (x : Result ℕ AddressFault). of_operand x (λ at. Ok (Formula (cell at)))) e) refl
+    by true (Some c) w e =
+        subst (λ (x : Result ℕ AddressFault). IsReadAs (Formula c) (of_operand x (λ at. Ok (Formula (cell at))))) (sym e)
+        (of_cell c (λ c. Formula c) (λ o s. outside_first s (Formula c) (λ h. h) (λ h. h) (λ h. h) (or-false _ ∙ o)) (λ o. (or-false _ ∙ o, refl)))
+
+set_out : (force b : Bool) (c : Cell) (text : Bytes) → is_outside c ≡ b → list_any lies_outside (form (Set force c text)) ≡ b
+set_out true b c text e = or-false _ ∙ e
+set_out false b c text e = or-false _ ∙ e
+
+pub set_read : (force : Bool) (text : Bytes) → IsReadAs (spelled (set_form force) text) (set_command force text)
+set_read force text = by (after_word text) (spelled_cell (first_word text)) (read_address (first_word text)) ((same_addr (first_word text)).read)
+  where
+    by : (t : Bytes) (o : Option Cell) (w : Result ℕ AddressFault) → w ≡ read_any o
+        → IsReadAs (made (both o (Some t)) (λ v. Set force v.0 v.1)) (if length t == 0 then Err refusal.BadCommand else of_operand w (λ at. Ok (Set force (cell at) t)))
+    by [] None w e = unknown
+    by [] (Some c) w e = λ s. set_none s force c
+    by (x ∷ xs) o w e =
+        let some : (length (x ∷ xs) == 0) ≡ false = grind (arith, nat_tests) in
+        subst (λ (b : Bool). IsReadAs (made (both o (Some (x ∷ xs))) (λ v. Set force v.0 v.1)) (if b then Err refusal.BadCommand else of_operand w (λ at. Ok (Set force (cell at) (x ∷ xs))))) (sym some) (full o e)
+      where
+        full : (o : Option Cell) → w ≡ read_any o → IsReadAs (made (both o (Some (x ∷ xs))) (λ v. Set force v.0 v.1)) (of_operand w (λ at. Ok (Set force (cell at) (x ∷ xs))))
+        full None e = bad _ _ (ap (λ (v : Result ℕ AddressFault). of_operand v (λ at. Ok (Set force (cell at) (x ∷ xs)))) e) refl
+        full (Some c) e =
+            subst (λ (v : Result ℕ AddressFault). IsReadAs (Set force c (x ∷ xs)) (of_operand v (λ at. Ok (Set force (cell at) (x ∷ xs))))) (sym e)
+            (of_cell c (λ c. Set force c (x ∷ xs)) (λ o s. outside_first s (Set force c (x ∷ xs)) (λ h. h) (λ h. h) (λ h. h) (set_out force true c (x ∷ xs) o)) (λ o. (set_out force false c (x ∷ xs) o, refl)))
+
+pub scenario_read : (text : Bytes) → IsReadAs (spelled scenario_form text) (scenario_command text)
+scenario_read text =
+    by (read_name (first_word text)) (spelled_cell (first_word (after_word text))) (read_address (first_word (after_word text))) ((same_addr (first_word (after_word text))).read)
+  where
+    by : (n : Option Bytes) (o : Option Cell) (w : Result ℕ AddressFault) → w ≡ read_any o
+        → IsReadAs (made (both n (both o (Some (after_word (after_word text))))) (λ v. Scenario v.0 v.1.0 v.1.1)) (of_name n (λ name. of_operand w (λ at. Ok (Scenario name (cell at) (after_word (after_word text))))))
+    by None o w e = unknown
+    by (Some name) None w e = bad _ _ (ap (λ (v : Result ℕ AddressFault). of_operand v (λ at. Ok (Scenario name (cell at) (after_word (after_word text))))) e) refl
+    by (Some name) (Some c) w e =
+        subst (λ (v : Result ℕ AddressFault). IsReadAs (Scenario name c (after_word (after_word text))) (of_operand v (λ at. Ok (Scenario name (cell at) (after_word (after_word text)))))) (sym e)
+        (of_cell c (λ c. Scenario name c (after_word (after_word text)))
+        (λ o s. outside_first s (Scenario name c (after_word (after_word text))) (λ h. h) (λ h. h) (λ h. h) (or-false _ ∙ o)) (λ o. (or-false _ ∙ o, refl)))
+
+-- ---- names
+
+-- one name, and no word behind it
+name_end : (f : Bytes → Command) → ((n : Bytes) → IsReadAs (f n) (Ok (f n))) → (b : Bool) (o : Option Bytes)
+    → IsReadAs (made (both o (ended b)) (λ v. f v.0)) (of_name (if b then o else None) (λ n. Ok (f n)))
+name_end f is false None = unknown
+name_end f is false (Some n) = unknown
+name_end f is true None = unknown
+name_end f is true (Some n) = is n
+
+pub drop_read : (text : Bytes) → IsReadAs (spelled drop_form text) (drop_command text)
+drop_read text = name_end (λ n. Drop n) (λ n. (refl, refl)) (is_all_spaces (after_word text)) (read_name (first_word text))
+
+pub as_read : (text : Bytes) → IsReadAs (spelled as_form text) (as_command text)
+as_read text = name_end (λ n. As n) (λ n. (refl, refl)) (is_all_spaces (after_word text)) (read_name (first_word text))
+
+-- a name, or nothing
+abbrev may : Bool → Bool → Option Bytes → Option (Values (MAYBE A_NAME END))
+may b c o = if b then Some None else option_map (λ v. Some v) (both o (ended c))
+
+abbrev may_read : Bool → Bool → Option Bytes → Option (Option Bytes)
+may_read b c o = if b then Some None else option_map (λ (n : Bytes). Some n) (if c then o else None)
+
+pub use_read : (text : Bytes) → IsReadAs (spelled use_form text) (use_command text)
+use_read text = by (is_all_spaces text) (is_all_spaces (after_word text)) (read_name (first_word text))
+  where
+    by : (b c : Bool) (o : Option Bytes) → IsReadAs (made (may b c o) use_form.make) (of_name (may_read b c o) (λ name. Ok (Use name)))
+    by true c o = (refl, refl)
+    by false false None = unknown
+    by false false (Some n) = unknown
+    by false true None = unknown
+    by false true (Some n) = (refl, refl)
+
+pub base_read : (text : Bytes) → IsReadAs (spelled base_form text) (base_command text)
+base_read text = by (read_name (first_word text)) (is_all_spaces (after_word text)) (is_all_spaces (after_word (after_word text))) (read_name (first_word (after_word text)))
+  where
+    by : (p : Option Bytes) (b c : Bool) (o : Option Bytes) → IsReadAs (made (both p (may b c o)) base_form.make) (of_name p (λ name. of_name (may_read b c o) (λ other. Ok (Base name other))))
+    by None b c o = unknown
+    by (Some n) true c o = (refl, refl)
+    by (Some n) false false None = unknown
+    by (Some n) false false (Some m) = unknown
+    by (Some n) false true None = unknown
+    by (Some n) false true (Some m) = (refl, refl)
+
+pub changes_read : (text : Bytes) → IsReadAs (spelled changes_form text) (changes_command text)
+changes_read text = by (is_all_spaces text)
+  where
+    by : (b : Bool) → IsReadAs (made (ended b) (λ v. Changes)) (if b then Ok Changes else Err refusal.BadCommand)
+    by true = (refl, refl)
+    by false = unknown
+
+-- ---- several operands
+
+pub compare_read : (text : Bytes) → IsReadAs (spelled compare_form text) (compare_command text)
+compare_read text =
+    by (is_all_spaces (after_word (after_word (after_word text)))) (read_side (first_word text)) (read_side (first_word (after_word text))) (spelled_rect (first_word (after_word (after_word text))))
+    (read_rect (first_word (after_word (after_word text)))) ((same_rect (first_word (after_word (after_word text)))).read)
+  where
+    by : (b : Bool) (p q : Option (Option Bytes)) (o : Option Corners) (w : Result Area AddressFault) → w ≡ read_any_area o
+        → IsReadAs (made (both p (both q (both o (ended b)))) (λ v. Compare v.0 v.1.0 v.1.1.0))
+        (if b then of_name p (λ s. of_name q (λ t. of_operand w (λ a. Ok (Compare s t (corners a))))) else Err refusal.BadCommand)
+    by true None q o w e = unknown
+    by false None q o w e = unknown
+    by true (Some s) None o w e = unknown
+    by false (Some s) None o w e = unknown
+    by false (Some s) (Some t) None w e = unknown
+    by false (Some s) (Some t) (Some r) w e = unknown
+    by true (Some s) (Some t) None w e = bad _ _ (ap (λ (x : Result Area AddressFault). of_operand x (λ a. Ok (Compare s t (corners a)))) e) refl
+    by true (Some s) (Some t) (Some r) w e =
+        subst (λ (x : Result Area AddressFault). IsReadAs (Compare s t r) (of_operand x (λ a. Ok (Compare s t (corners a))))) (sym e)
+        (of_rect r (λ r. Compare s t r) (λ o u. compare_step u s t r true (is_large r) (lacks u.scenarios s || lacks u.scenarios t) o refl refl) (λ o. (or-false _ ∙ o, refl)))
+
+pub fill_read : (force : Bool) (text : Bytes) → IsReadAs (spelled (fill_form force) text) (fill_command force text)
+fill_read force text =
+    by (is_all_spaces (after_word (after_word text))) (spelled_cell (first_word text)) (spelled_rect (first_word (after_word text))) (read_address (first_word text)) (read_rect (first_word (after_word text)))
+    ((same_addr (first_word text)).read) ((same_rect (first_word (after_word text))).read)
+  where
+    inside : (c : Cell) (r : Corners) (x y : Bool) → is_outside c ≡ x → lies_out r ≡ y → IsReadAs (Fill force c r) (fill_command_of force (read_by x (address c)) (read_by y (area r)))
+    inside c r true true e g = λ s. fill_out s force c r true true e g refl
+    inside c r true false e g = λ s. fill_out s force c r true false e g refl
+    inside c r false true e g = λ s. fill_out s force c r false true e g refl
+    inside c r false false e g = (fill_outside force false false c r e g, refl)
+
+    no_area : (v : Result ℕ AddressFault) → fill_command_of force v (Err Shape) ≡ Err refusal.BadCommand
+    no_area (Ok a) = refl
+    no_area (Err Shape) = refl
+    no_area (Err Outside) = refl
+
+    by : (b : Bool) (o : Option Cell) (p : Option Corners) (v : Result ℕ AddressFault) (w : Result Area AddressFault) → v ≡ read_any o → w ≡ read_any_area p
+        → IsReadAs (made (both o (both p (ended b))) (λ v. Fill force v.0 v.1.0)) (if b then fill_command_of force v w else Err refusal.BadCommand)
+    by false None p v w e g = unknown
+    by false (Some c) None v w e g = unknown
+    by false (Some c) (Some r) v w e g = unknown
+    by true None p v w e g = bad _ _ (ap (λ (x : Result ℕ AddressFault). fill_command_of force x w) e) refl
+    by true (Some c) None v w e g = bad _ _ (ap (fill_command_of force v) g ∙ no_area v) refl
+    by true (Some c) (Some r) v w e g =
+        subst (λ (y : Result Area AddressFault). IsReadAs (Fill force c r) (fill_command_of force v y)) (sym g)
+        (subst (λ (x : Result ℕ AddressFault). IsReadAs (Fill force c r) (fill_command_of force x (read_area r))) (sym e) (inside c r (is_outside c) (lies_out r) refl refl))
+
+-- ---- table
+
+no_more : {X Y : Type 0} (o : Option X) → both o (let p : Option Y = None in p) ≡ None
+no_more None = refl
+no_more (Some x) = refl
+
+abbrev Second : Type 0
+Second = Values (MAYBE A_CELL (AND A_RECT END))
+
+abbrev table_of : Option Cell → Option Cell → Option Corners → Option Second → Command
+table_of f r xs y = made (both f (both r (both xs y))) table_form.make
+
+none_of_it : (f r : Option Cell) (xs : Option Corners) → table_of f r xs None ≡ Unknown
+none_of_it None r xs = refl
+none_of_it (Some f) None xs = refl
+none_of_it (Some f) (Some r) None = refl
+none_of_it (Some f) (Some r) (Some xs) = refl
+
+one : (f r : Option Cell) (xs : Option Corners) → IsReadAs (table_of f r xs (Some None)) (table_of_one (read_any f) (read_any r) (read_any_area xs))
+one f r xs = by f r xs (λ h. one_as (read_any f) (read_any r) (read_any_area xs) (Some Shape) h)
+  where
+    by : (f r : Option Cell) (xs : Option Corners) → (worst (one_faults (read_any f) (read_any r) (read_any_area xs)) ≡ Some Shape → table_of_one (read_any f) (read_any r) (read_any_area xs) ≡ Err refusal.BadCommand)
+        → IsReadAs (table_of f r xs (Some None)) (table_of_one (read_any f) (read_any r) (read_any_area xs))
+    by None r xs refuses = bad _ _ (refuses (has_shape [] (result_err (read_any r) ∷ line_fault is_column (read_any_area xs) ∷ []))) refl
+    by (Some f) None xs refuses = bad _ _ (refuses (has_shape (result_err (read_cell f) ∷ []) (line_fault is_column (read_any_area xs) ∷ []))) refl
+    by (Some f) (Some r) None refuses = bad _ _ (refuses (has_shape (result_err (read_cell f) ∷ result_err (read_cell r) ∷ []) [])) refl
+    by (Some f) (Some r) (Some xs) refuses = one_read f r xs
+
+two : (f r : Option Cell) (xs : Option Corners) (c : Option Cell) (ys : Option Corners)
+    → IsReadAs (table_of f r xs (option_map (λ v. Some v) (both c (both ys (ended true))))) (table_of_two (read_any f) (read_any r) (read_any_area xs) (read_any c) (read_any_area ys))
+two f r xs c ys = by f r xs c ys (λ h. two_as (read_any f) (read_any r) (read_any_area xs) (read_any c) (read_any_area ys) (Some Shape) h)
+  where
+    by : (f r : Option Cell) (xs : Option Corners) (c : Option Cell) (ys : Option Corners)
+        → (worst (two_faults (read_any f) (read_any r) (read_any_area xs) (read_any c) (read_any_area ys)) ≡ Some Shape
+        → table_of_two (read_any f) (read_any r) (read_any_area xs) (read_any c) (read_any_area ys) ≡ Err refusal.BadCommand)
+        → IsReadAs (table_of f r xs (option_map (λ v. Some v) (both c (both ys (ended true))))) (table_of_two (read_any f) (read_any r) (read_any_area xs) (read_any c) (read_any_area ys))
+    by None r xs c ys refuses =
+        bad _ _ (refuses (has_shape [] (result_err (read_any r) ∷ line_fault is_column (read_any_area xs) ∷ result_err (read_any c) ∷ line_fault is_row (read_any_area ys) ∷ []))) refl
+    by (Some f) None xs c ys refuses =
+        bad _ _ (refuses (has_shape (result_err (read_cell f) ∷ []) (line_fault is_column (read_any_area xs) ∷ result_err (read_any c) ∷ line_fault is_row (read_any_area ys) ∷ []))) refl
+    by (Some f) (Some r) None c ys refuses =
+        bad _ _ (refuses (has_shape (result_err (read_cell f) ∷ result_err (read_cell r) ∷ []) (result_err (read_any c) ∷ line_fault is_row (read_any_area ys) ∷ []))) refl
+    by (Some f) (Some r) (Some xs) None ys refuses =
+        bad _ _ (refuses (has_shape (result_err (read_cell f) ∷ result_err (read_cell r) ∷ line_fault is_column (read_area xs) ∷ []) (line_fault is_row (read_any_area ys) ∷ []))) refl
+    by (Some f) (Some r) (Some xs) (Some c) None refuses =
+        bad _ _ (refuses (has_shape (result_err (read_cell f) ∷ result_err (read_cell r) ∷ line_fault is_column (read_area xs) ∷ result_err (read_cell c) ∷ []) [])) refl
+    by (Some f) (Some r) (Some xs) (Some c) (Some ys) refuses = two_read f r xs c ys
+
+abbrev reading_behind : Bool → Bool → Result ℕ AddressFault → Result ℕ AddressFault → Result Area AddressFault → Result ℕ AddressFault → Result Area AddressFault → Reading
+reading_behind b g f r xs c ys = if b then table_of_one f r xs else (if g then table_of_two f r xs c ys else Err refusal.BadCommand)
+
+behind : (b g : Bool) (f r : Option Cell) (xs : Option Corners) (c : Option Cell) (ys : Option Corners)
+    → IsReadAs (table_of f r xs (if b then Some None else option_map (λ v. Some v) (both c (both ys (ended g))))) (reading_behind b g (read_any f) (read_any r) (read_any_area xs) (read_any c) (read_any_area ys))
+behind true g f r xs c ys = one f r xs
+behind false true f r xs c ys = two f r xs c ys
+behind false false f r xs c ys =
+    bad _ _ refl (ap (λ (o : Option (Cell × (Corners × Unit {0}))). table_of f r xs (option_map (λ v. Some v) o)) (ap (λ (o : Option (Corners × Unit {0})). both c o) (no_more ys) ∙ no_more c) ∙ none_of_it f r xs)
+
+pub table_read : (text : Bytes) → IsReadAs (spelled table_form text) (table_command text)
+table_read text =
+    let v = first_word text in
+    let w = first_word (after_word text) in
+    let x = first_word (after_word (after_word text)) in
+    let more = after_word (after_word (after_word text)) in
+    let y = first_word more in
+    let z = first_word (after_word more) in
+    let b = is_all_spaces more in
+    let g = is_all_spaces (after_word (after_word more)) in
+    let same : reading_behind b g (read_address v) (read_address w) (read_rect x) (read_address y) (read_rect z)
+    ≡ reading_behind b g (read_any (spelled_cell v)) (read_any (spelled_cell w)) (read_any_area (spelled_rect x)) (read_any (spelled_cell y)) (read_any_area (spelled_rect z)) =
+    ap (λ (k : Result ℕ AddressFault). reading_behind b g k (read_address w) (read_rect x) (read_address y) (read_rect z)) ((same_addr v).read)
+    ∙ ap₂ (λ (k : Result ℕ AddressFault) (l : Result Area AddressFault). reading_behind b g (read_any (spelled_cell v)) k l (read_address y) (read_rect z)) ((same_addr w).read) ((same_rect x).read)
+    ∙ ap₂ (λ (k : Result ℕ AddressFault) (l : Result Area AddressFault). reading_behind b g (read_any (spelled_cell v)) (read_any (spelled_cell w)) (read_any_area (spelled_rect x)) k l) ((same_addr y).read) ((same_rect z).read) in
+    subst (λ (u : Reading). IsReadAs (spelled table_form text) u) (sym same) (behind b g (spelled_cell v) (spelled_cell w) (spelled_rect x) (spelled_cell y) (spelled_rect z))

@@ -1,0 +1,132 @@
+-- The command that a text spells, by the forms of commands.
+use Rattle.std.specs.Prelude.{ℕ, Bool, true, false, List, [], ◌∷◌, Option, Some, None, option_map, if◌then◌else◌, codes}
+use Rattle.std.specs.Str.{bytes_eq}
+use Rattle.wi_values.specs.Name.{Bytes, read_name}
+use Rattle.wi_scenarios.specs.Commands.Operands.{Cell, Corners}
+use Rattle.wi_scenarios.specs.Commands.Command.{Command, Set, Clear, Fill, Scenario, Drop, Base, Use, As, Show, Export, Changes, Compare, Table, Formula, Unknown}
+use Rattle.wi_cli.specs.Lines.{first_word, after_word}
+use Rattle.wi_cli.specs.Inner.Operands.{is_all_spaces, both, spelled_cell, spelled_rect, read_side}
+
+-- ---- words
+
+pub data Kind : Type 0 where
+  A_CELL A_RECT A_NAME A_SESSION A_SIDE : Kind
+
+-- what stands behind a name: nothing; a content, which is all that is left; a word and more; or nothing, or that
+pub data Words : Type 0 where
+  END TEXT : Words
+  AND MAYBE : Kind → Words → Words
+
+abbrev pub Value : Kind → Type 0
+Value A_CELL = Cell
+Value A_RECT = Corners
+Value A_NAME = Bytes
+Value A_SESSION = Bytes
+Value A_SIDE = Option Bytes
+
+abbrev pub Values : Words → Type 0
+Values END = Unit {0}
+Values TEXT = Bytes
+Values (AND k ws) = Value k × Values ws
+Values (MAYBE k ws) = Option (Value k × Values ws)
+
+abbrev pub read_word : (k : Kind) → Bytes → Option (Value k)
+read_word A_CELL word = spelled_cell word
+read_word A_RECT word = spelled_rect word
+read_word A_NAME word = read_name word
+read_word A_SESSION word = read_name word
+read_word A_SIDE word = read_side word
+
+abbrev pub read_words : (ws : Words) → Bytes → Option (Values ws)
+read_words END text = if is_all_spaces text then Some tt else None
+read_words TEXT text = Some text
+read_words (AND k ws) text = both (read_word k (first_word text)) (read_words ws (after_word text))
+read_words (MAYBE k ws) text =
+    if is_all_spaces text then Some None else option_map (λ v. Some v) (both (read_word k (first_word text)) (read_words ws (after_word text)))
+
+-- ---- forms
+
+-- a command's name, what stands behind it, and the command
+pub record Form : Type 0 where
+  pub name : Bytes
+  pub words : Words
+  pub make : Values words → Command
+
+abbrev pub made : {X : Type 0} → Option X → (X → Command) → Command
+made (Some x) make = make x
+made None make = Unknown
+
+-- the command of these operands
+abbrev pub spelled : Form → Bytes → Command
+spelled f operands = made (read_words f.words operands) f.make
+
+abbrev pub set_form : Bool → Form
+set_form force = record { name = codes "set"; words = AND A_CELL TEXT; make = λ v. Set force v.0 v.1 }
+
+abbrev pub clear_form : Bool → Form
+clear_form force = record { name = codes "clear"; words = AND A_RECT END; make = λ v. Clear force v.0 }
+
+abbrev pub fill_form : Bool → Form
+fill_form force = record { name = codes "fill"; words = AND A_CELL (AND A_RECT END); make = λ v. Fill force v.0 v.1.0 }
+
+abbrev pub scenario_form : Form
+scenario_form = record { name = codes "scenario"; words = AND A_NAME (AND A_CELL TEXT); make = λ v. Scenario v.0 v.1.0 v.1.1 }
+
+abbrev pub drop_form : Form
+drop_form = record { name = codes "drop"; words = AND A_NAME END; make = λ v. Drop v.0 }
+
+abbrev pub base_form : Form
+base_form = record { name = codes "base"; words = AND A_NAME (MAYBE A_NAME END); make = λ v. Base v.0 (option_map (λ x. x.0) v.1) }
+
+abbrev pub use_form : Form
+use_form = record { name = codes "use"; words = MAYBE A_NAME END; make = λ v. Use (option_map (λ x. x.0) v) }
+
+abbrev pub as_form : Form
+as_form = record { name = codes "as"; words = AND A_SESSION END; make = λ v. As v.0 }
+
+abbrev pub show_form : Form
+show_form = record { name = codes "show"; words = AND A_RECT END; make = λ v. Show v.0 }
+
+abbrev pub export_form : Form
+export_form = record { name = codes "export"; words = AND A_RECT END; make = λ v. Export v.0 }
+
+abbrev pub changes_form : Form
+changes_form = record { name = codes "changes"; words = END; make = λ v. Changes }
+
+abbrev pub compare_form : Form
+compare_form = record { name = codes "compare"; words = AND A_SIDE (AND A_SIDE (AND A_RECT END)); make = λ v. Compare v.0 v.1.0 v.1.1.0 }
+
+abbrev pub table_form : Form
+table_form = record {
+  name = codes "table";
+  words = AND A_CELL (AND A_CELL (AND A_RECT (MAYBE A_CELL (AND A_RECT END))));
+  make = λ v. Table v.0 v.1.0 v.1.1.0 (option_map (λ y. (y.0, y.1.0)) v.1.1.1);
+}
+
+abbrev pub formula_form : Form
+formula_form = record { name = codes "formula"; words = AND A_CELL END; make = λ v. Formula v.0 }
+
+-- the commands that may be forced, and all
+abbrev pub edit_forms : Bool → List Form
+edit_forms force = set_form force ∷ clear_form force ∷ fill_form force ∷ []
+
+abbrev pub forms : List Form
+forms =
+    scenario_form ∷ drop_form ∷ base_form ∷ use_form ∷ as_form ∷ show_form ∷ export_form ∷ changes_form ∷ compare_form ∷ table_form ∷ formula_form
+    ∷ edit_forms false
+
+-- ---- a text
+
+-- the command of this name
+abbrev pub named_in : List Form → Bytes → Bytes → Command
+named_in [] name operands = Unknown
+named_in (f ∷ fs) name operands = if bytes_eq name f.name then spelled f operands else named_in fs name operands
+
+-- `force` stands before the name of an edit
+abbrev pub named_command : Bytes → Bytes → Command
+named_command name operands =
+    if bytes_eq name (codes "force") then named_in (edit_forms true) (first_word operands) (after_word operands) else named_in forms name operands
+
+-- the command that a text spells
+unfoldable pub spelled_command : Bytes → Command
+spelled_command text = named_command (first_word text) (after_word text)
