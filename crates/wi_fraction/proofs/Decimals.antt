@@ -1,5 +1,5 @@
 -- The exact decimal: its places, its digits, and what stands before it.
-use Rattle.wi_fraction.proofs.Vocabulary.{String, string_bytes, subst, sym, ap, ◌∙◌, arith, Result, Ok, Err, OnOk, OnErr, is_ok, if◌then◌else◌, starts_with_length, starts_with_of_append, ◌≡◌, ℕ, zero, suc, ◌+◌, ◌-◌, ◌*◌, ◌/◌, ◌%◌, ◌^◌, ◌<◌, ◌≤◌, ◌≢◌, List, [], ◌∷◌, ◌++◌, length, Some, None, refl, Global, decimal, StartsWith, IsUtf8, IsCharBoundary, decimal_digit, take-append-le, take_all, append_assoc, append-nil, div-mul-add, IsCharBoundary-from_take, IsUtf8-string_bytes, div-add-mod', mul-div_cancel, mul_assoc, mul_comm, mul_right_comm, pow_more, pow-zero, mul-one, mod-eq_of_lt, mul-add-mod_self_right, add-mul-div_right, div-lt_iff_lt-mul, padded, size_text, all_places, places_from}
+use Rattle.wi_fraction.proofs.Vocabulary.{String, string_bytes, subst, sym, ap, ◌∙◌, arith, Result, Ok, Err, OnOk, OnErr, is_ok, if◌then◌else◌, starts_with_length, starts_with_of_append, ◌≡◌, ℕ, zero, suc, ◌+◌, ◌-◌, ◌*◌, ◌/◌, ◌%◌, ◌^◌, ◌<◌, ◌≤◌, ◌≢◌, List, [], ◌∷◌, ◌++◌, length, Some, None, refl, Global, decimal, StartsWith, IsUtf8, IsCharBoundary, decimal_digit, take-append-le, take_all, append_assoc, append-nil, div-mul-add, IsCharBoundary-from_take, IsUtf8-string_bytes, div-add-mod', mul-div_cancel, mul_assoc, mul_comm, mul_right_comm, pow_more, pow-zero, mul-one, mod-eq_of_lt, mul-add-mod_self_right, add-mul-div_right, div-lt_iff_lt-mul, padded, size_text, places, places_from}
 use Rattle.wi_fraction.proofs.Places.{places_from_end, places_from_found, places_from_more, all_divide, multiple_of}
 use Rattle.wi_fraction.proofs.Padded.{padded_suc}
 
@@ -58,8 +58,8 @@ double_parts w r d =
 
 -- ---- the places
 
-pub all_places_begin : (d : ℕ) → all_places d ≡ places_from (127 - 0) 0 d
-unfolding all_places places_from
+pub all_places_begin : (d : ℕ) → places 126 d ≡ places_from (127 - 0) 0 d
+unfolding places places_from
 all_places_begin d = refl
 
 tenfold_parts : (n d : ℕ) → n * 10 ≡ n / d * 10 * d + n % d * 10
@@ -79,19 +79,19 @@ tenfold_quotient n d dp =
 pub next_power : (i d r s : ℕ) → r ≡ 10 ^ i % d → s ≡ r * 10 % d → s ≡ 10 ^ (i + 1) % d
 next_power i d r s e f = f ∙ rw (e, pow_more 10 i) (tenfold_rest (10 ^ i) d)
 
-pub all_next : (k d r : ℕ) → k < 127 → r ≡ 10 ^ k % d → r ≢ 0 → all_places d ≡ places_from (127 - k) k d → all_places d ≡ places_from (127 - (k + 1)) (k + 1) d
+pub all_next : (k d r : ℕ) → k < 127 → r ≡ 10 ^ k % d → r ≢ 0 → places 126 d ≡ places_from (127 - k) k d → places 126 d ≡ places_from (127 - (k + 1)) (k + 1) d
 all_next k d r h e apart f =
     let some : 127 - k ≢ 0 = λ z. absurd (omega (arith, h, z)) in
     let rest : 10 ^ k % d ≢ 0 = λ z. apart (e ∙ z) in
     let fewer : 127 - (k + 1) ≡ 127 - k - 1 = omega arith in
     rw fewer (f ∙ sym (places_from_more (127 - k) k (10 ^ k) d (places_from (127 - k - 1) (k + 1) d) refl some rest refl))
 
-pub all_found : (k d r : ℕ) → k < 127 → r ≡ 10 ^ k % d → r ≡ 0 → all_places d ≡ places_from (127 - k) k d → Some k ≡ all_places d
+pub all_found : (k d r : ℕ) → k < 127 → r ≡ 10 ^ k % d → r ≡ 0 → places 126 d ≡ places_from (127 - k) k d → Some k ≡ places 126 d
 all_found k d r h e zero_is f =
     let some : 127 - k ≢ 0 = λ z. absurd (omega (arith, h, z)) in
     places_from_found (127 - k) k (10 ^ k) d refl some (sym e ∙ zero_is) ∙ sym f
 
-pub all_end : (k d : ℕ) → 127 ≤ k → all_places d ≡ places_from (127 - k) k d → None ≡ all_places d
+pub all_end : (k d : ℕ) → 127 ≤ k → places 126 d ≡ places_from (127 - k) k d → None ≡ places 126 d
 all_end k d h f = places_from_end (127 - k) k d (omega (arith, h)) ∙ sym f
 
 -- ---- the digits
@@ -139,15 +139,15 @@ multiple_over r t d dp e =
     let parts : r * t ≡ r * m * d = ap (λ k. r * k) whole ∙ sym (mul_assoc r m d) in
     rw parts (mul-div_cancel (r * m) dp)
 
-pub exact_none : (n d : ℕ) → None ≡ all_places d → size_text (all_places d) n d ≡ decimal n ++ 47 ∷ decimal d
+pub exact_none : (n d : ℕ) → None ≡ places 126 d → size_text (places 126 d) n d ≡ decimal n ++ 47 ∷ decimal d
 unfolding size_text
 exact_none n d e = rw (sym e) refl
 
-pub exact_whole : (n d : ℕ) → Some 0 ≡ all_places d → size_text (all_places d) n d ≡ decimal n
+pub exact_whole : (n d : ℕ) → Some 0 ≡ places 126 d → size_text (places 126 d) n d ≡ decimal n
 unfolding size_text
 exact_whole n d e = rw (sym e) refl
 
-pub exact_point : (n d k : ℕ) → Some k ≡ all_places d → 0 < k → 0 < d → size_text (all_places d) n d ≡ decimal (n / d) ++ 46 ∷ padded k (n % d * 10 ^ k / d)
+pub exact_point : (n d k : ℕ) → Some k ≡ places 126 d → 0 < k → 0 < d → size_text (places 126 d) n d ≡ decimal (n / d) ++ 46 ∷ padded k (n % d * 10 ^ k / d)
 unfolding size_text
 exact_point n d zero e h dp = absurd (omega (arith, h))
 exact_point n d (suc k) e h dp = rw (multiple_over (n % d) (10 ^ suc k) d dp (all_divide d (suc k) (sym e)), sym e) refl

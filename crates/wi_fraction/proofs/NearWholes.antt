@@ -1,7 +1,11 @@
 -- Whole numbers near a number are numbers, and so is the number with the other sign.
-use Rattle.wi_fraction.proofs.Vocabulary.{◌≡◌, ℕ, ◌+◌, ◌-◌, ◌*◌, ◌<◌, ◌≤◌, ℤ, pos, negsuc, neg_ℤ, unsigned_abs, int_lt, Bool, true, false, Option, Some, unwrap_or, refl, sym, ap, ◌∙◌, arith, mul-le-mul_left, div-lt_iff_lt-mul, div-le_self, Mode, HalfAway, Away, Toward, negated, gcd-one, Number, IsNumber, number_at, number_of, signed, max_size, abs-neg, number_at-some, floored, floor_of, rounded, rounded_size}
+use Rattle.wi_fraction.proofs.Vocabulary.{◌≡◌, ℕ, ◌+◌, ◌-◌, ◌*◌, ◌<◌, ◌≤◌, ℤ, pos, negsuc, neg_ℤ, unsigned_abs, int_lt, Bool, true, false, Option, Some, unwrap_or, refl, sym, ap, ◌∙◌, arith, mul-le-mul_left, div-lt_iff_lt-mul, div-le_self, Mode, HalfAway, Away, Toward, negated, gcd-one, Number, IsNumber, number_at, number_of, signed, max_size, abs-neg, number_at-some, floored, int_div_euclid, rounded, rounded_size}
 use Rattle.wi_fraction.proofs.Numbers.{number_of-lowest}
 use Rattle.wi_fraction.proofs.Steps.{signed-abs}
+
+-- the floor of n/d
+abbrev pub floor_of : ℤ → ℕ → ℤ
+floor_of n d = int_div_euclid n (pos d)
 
 pub floor_fits : (n : ℤ) (d : ℕ) → unsigned_abs n ≤ max_size → unsigned_abs (floor_of n d) ≤ max_size
 floor_fits (pos n) d h = omega (arith, h, div-le_self n d)

@@ -1,6 +1,6 @@
 -- The floor is the greatest whole number that is not above, and what each mode rounds to.
-use Rattle.wi_fraction.proofs.Vocabulary.{◌≡◌, ℕ, suc, ◌+◌, ◌-◌, ◌*◌, ◌/◌, ◌<◌, ◌≤◌, ℤ, pos, negsuc, neg_ℤ, ◌*ℤ◌, ◌≤ℤ◌, unsigned_abs, int_lt, nat_lt, false, refl, sym, ap, ◌∙◌, subst, inl, inr, arith, cases_lt, nat_tests, ints, div-mul-le_self, lt-div-mul-add, div-lt_iff_lt-mul, le-div_iff_mul-le, mul-le-mul_right, mul-pos, Mode, HalfAway, Away, Toward, NotAbove, NotBelow, distance, IsGreatestNotAbove, IsLeastNotBelow, IsNearest, HasFloor, IsRounded, Number, signed, abs-neg, floor_of, rounded, rounded_size}
-use Rattle.wi_fraction.proofs.NearWholes.{rounded_below, floored_is, rounded_is}
+use Rattle.wi_fraction.proofs.Vocabulary.{◌≡◌, ℕ, suc, ◌+◌, ◌-◌, ◌*◌, ◌/◌, ◌<◌, ◌≤◌, ℤ, pos, negsuc, neg_ℤ, ◌*ℤ◌, ◌≤ℤ◌, unsigned_abs, int_lt, nat_lt, false, refl, sym, ap, ◌∙◌, subst, inl, inr, arith, cases_lt, nat_tests, ints, div-mul-le_self, lt-div-mul-add, div-lt_iff_lt-mul, le-div_iff_mul-le, mul-le-mul_right, mul-pos, Mode, HalfAway, Away, Toward, NotAbove, NotBelow, distance, IsGreatestNotAbove, IsLeastNotBelow, IsNearest, HasFloor, IsRounded, Number, signed, abs-neg, rounded, rounded_size}
+use Rattle.wi_fraction.proofs.NearWholes.{floor_of, rounded_below, floored_is, rounded_is}
 use Rattle.wi_fraction.proofs.Values.{neg-neg, neg-mul}
 
 -- ---- below and above

@@ -1,5 +1,5 @@
 -- The places of a decimal: how many, and that no fewer will do.
-use Rattle.wi_fraction.proofs.Vocabulary.{◌≡◌, ℕ, zero, suc, ◌+◌, ◌-◌, ◌*◌, ◌/◌, ◌%◌, ◌^◌, ◌<◌, ◌≤◌, Option, Some, None, refl, ◌≢◌, ◌∙◌, sym, ap, arith, nat_tests, mod-lt, div-add-mod, mul-lt-mul_of_pos_right, mod-eq_of_lt, pow-le-pow_right, ShowsFewestPlaces, places, places_from, all_places}
+use Rattle.wi_fraction.proofs.Vocabulary.{◌≡◌, ℕ, zero, suc, ◌+◌, ◌-◌, ◌*◌, ◌/◌, ◌%◌, ◌^◌, ◌<◌, ◌≤◌, Option, Some, None, refl, ◌≢◌, ◌∙◌, sym, ap, arith, nat_tests, mod-lt, div-add-mod, mul-lt-mul_of_pos_right, mod-eq_of_lt, pow-le-pow_right, ShowsFewestPlaces, places, places_from}
 
 pub places_from_divide : (t k d j : ℕ) → places_from t k d ≡ Some j → 10 ^ j % d ≡ 0
 unfolding places_from
@@ -8,7 +8,7 @@ places_from_divide (suc t) k d j e =
     let further = places_from_divide t (k + 1) d j in
     grind (arith, nat_tests, further)
 
-pub places_divide : (d j : ℕ) → places d ≡ Some j → 10 ^ j % d ≡ 0
+pub places_divide : (d j : ℕ) → places 12 d ≡ Some j → 10 ^ j % d ≡ 0
 unfolding places places_from
 places_divide d j e = places_from_divide 13 0 d j e
 
@@ -20,7 +20,7 @@ places_from_least (suc t) k d j i e from below z =
     grind (arith, nat_tests, further)
 
 -- no fewer places will do
-pub places_least : (d j i : ℕ) → places d ≡ Some j → i < j → 10 ^ i % d ≢ 0
+pub places_least : (d j i : ℕ) → places 12 d ≡ Some j → i < j → 10 ^ i % d ≢ 0
 unfolding places places_from
 places_least d j i e h = places_from_least 13 0 d j i e (omega arith) h
 
@@ -32,22 +32,22 @@ places_from_none (suc t) k d i e from below z =
     grind (arith, nat_tests, further)
 
 -- where there are none, d does not divide the twelfth power of ten
-pub places_none : (d : ℕ) → places d ≡ None → 10 ^ 12 % d ≢ 0
+pub places_none : (d : ℕ) → places 12 d ≡ None → 10 ^ 12 % d ≢ 0
 unfolding places places_from
 places_none d e = places_from_none 13 0 d 12 e (omega arith) (omega arith)
 
 -- ---- as an exact decimal
 
-pub all_divide : (d j : ℕ) → all_places d ≡ Some j → 10 ^ j % d ≡ 0
-unfolding all_places places_from
+pub all_divide : (d j : ℕ) → places 126 d ≡ Some j → 10 ^ j % d ≡ 0
+unfolding places places_from
 all_divide d j e = places_from_divide 127 0 d j e
 
-all_least : (d j i : ℕ) → all_places d ≡ Some j → i < j → 10 ^ i % d ≢ 0
-unfolding all_places places_from
+all_least : (d j i : ℕ) → places 126 d ≡ Some j → i < j → 10 ^ i % d ≢ 0
+unfolding places places_from
 all_least d j i e h = places_from_least 127 0 d j i e (omega arith) h
 
-pub all_none : (d : ℕ) → all_places d ≡ None → 10 ^ 126 % d ≢ 0
-unfolding all_places places_from
+pub all_none : (d : ℕ) → places 126 d ≡ None → 10 ^ 126 % d ≢ 0
+unfolding places places_from
 all_none d e = places_from_none 127 0 d 126 e (omega arith) (omega arith)
 
 -- ---- divisors of powers
@@ -74,7 +74,7 @@ places_from_few (suc t) k d j e =
     let further = places_from_few t (k + 1) d j in
     grind (arith, nat_tests, further)
 
-pub places_few : (d j : ℕ) → places d ≡ Some j → j ≤ 12
+pub places_few : (d j : ℕ) → places 12 d ≡ Some j → j ≤ 12
 unfolding places places_from
 places_few d j e = omega (arith, places_from_few 13 0 d j e)
 

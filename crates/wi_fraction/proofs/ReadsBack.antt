@@ -92,5 +92,5 @@ pub reads_back : ReadsBack
 unfolding text_of
 reads_back x =
     let s = int_lt x.num (pos 0) in
-    read_text s (unsigned_abs x.num) x.den (places x.den) (places_divide x.den) x.is_number.above_zero x.is_number.num_fits x.is_number.den_fits x.is_number.lowest
+    read_text s (unsigned_abs x.num) x.den (places 12 x.den) (places_divide x.den) x.is_number.above_zero x.is_number.num_fits x.is_number.den_fits x.is_number.lowest
     ∙ rw (signed-abs x.num) (number_at-some x.num x.den x refl refl)

@@ -1,9 +1,9 @@
 -- What the results are worth: they have the value of the exact operation.
-use Rattle.wi_fraction.proofs.Vocabulary.{◌≡◌, IfOk, Result, ok_or, ℕ, zero, suc, ◌*◌, ◌/◌, ◌<◌, ℤ, pos, negsuc, ◌+ℤ◌, ◌-ℤ◌, ◌*ℤ◌, neg_ℤ, unsigned_abs, int_div, Option, Some, None, refl, ◌∣◌, sym, ap, ◌∙◌, subst, arith, ints, mul_comm, mul_assoc, div-mul_cancel, dvd-mul_left, dvd-mul_right, Bool, true, false, cond, nat_le, option_and_then, ◌<ℤ◌, int_cmp, int_ranks, gcd, is_gcd, unsigned_abs-mul, same_lowest, IsExact, Number, number_of, max_size, number_at-some, number_at-is, negated, bounded, int_bounded, sum_of, product_of, quotient_of, fraction_of, mul-mul, neg-pos-mul, mul_below, int_irrefl, by_rank, turn}
+use Rattle.wi_fraction.proofs.Vocabulary.{◌≡◌, IfOk, Result, ok_or, ℕ, zero, suc, ◌*◌, ◌/◌, ◌<◌, ℤ, pos, negsuc, ◌+ℤ◌, ◌-ℤ◌, ◌*ℤ◌, neg_ℤ, unsigned_abs, int_div, Option, Some, None, refl, ◌∣◌, sym, ap, ◌∙◌, subst, arith, ints, mul_comm, mul_assoc, div-mul_cancel, dvd-mul_left, dvd-mul_right, Bool, true, false, cond, nat_le, option_and_then, ◌<ℤ◌, int_cmp, int_ranks, gcd, is_gcd, unsigned_abs-mul, same_lowest, IsExact, Number, number_of, max_size, number_at-some, number_at-is, negated, bounded, int_bounded, sum_by_steps, sum_of, product_of, quotient_of, fraction_of, mul-mul, neg-pos-mul, mul_below, int_irrefl, by_rank, turn}
 use Rattle.wi_fraction.proofs.Divisors.{gcd_pos, div_gcd_pos, coprime_divided}
 use Rattle.wi_fraction.proofs.NearWholes.{opposite, negated_is}
 use Rattle.wi_fraction.proofs.Numbers.{abs-signed}
-use Rattle.wi_fraction.proofs.Steps.{bounded-some, multiple_pos}
+use Rattle.wi_fraction.proofs.Steps.{bounded-some, multiple_pos, sum_steps}
 
 mul-suc : (z : ℤ) (k : ℕ) → z *ℤ pos (suc k) ≡ z *ℤ pos k +ℤ z
 mul-suc (pos a) k = omega (arith, ints)
@@ -79,8 +79,9 @@ dvd_lcm b d =
 
 -- a sum has the value of the exact sum
 pub sum_value : (x y z : Number) → sum_of x y ≡ Some z → (x.num *ℤ pos y.den +ℤ y.num *ℤ pos x.den) *ℤ pos z.den ≡ z.num *ℤ pos (x.den * y.den)
-unfolding sum_of
-sum_value x y z e =
+unfolding sum_by_steps
+sum_value x y z is =
+    let e : sum_by_steps x y ≡ Some z = sum_steps x y ∙ is in
     let b = x.den in
     let d = y.den in
     let s1 = then_some _ _ z e in

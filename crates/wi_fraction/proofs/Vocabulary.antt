@@ -17,10 +17,10 @@ pub use Rattle.std.proofs.lemmas.Nat.Gcd.{IsGcd-from_mod, IsGcd-from_zero, dvd_o
 pub use Rattle.std.proofs.lemmas.Result.{IfOk-from_err}
 pub use Rattle.std.proofs.lemmas.Str.{IsCharBoundary-from_ascii, IsCharBoundary-from_take, IsUtf8-string_bytes}
 pub use Rattle.std.proofs.lemmas.Str.Parse.{IsNumeralModel, digit_at, digits_value-take-le, numerals_by_value, tells_all_ascii_digits}
-pub use Rattle.std.specs.Char.{digit_value, is_ascii_digit}
+pub use Rattle.std.specs.Char.{digit_value, is_ascii_digit, to_ascii_uppercase}
 pub use Rattle.std.specs.Cmp.{int_cmp_is, int_ranks, nat_cmp_is, ranks}
 pub use Rattle.std.specs.Fmt.{decimal}
-pub use Rattle.std.specs.Int.{IsInRange, cast_signed, cast_unsigned, int_pow, w128, ◌∣◌}
+pub use Rattle.std.specs.Int.{IsInRange, cast_signed, cast_unsigned, int_div_euclid, int_pow, w128, ◌∣◌}
 pub use Rattle.std.specs.Io.{StartsWith}
 pub use Rattle.std.specs.List.{list_all, prefix_len, range_with_len}
 pub use Rattle.std.specs.Ordering.{MatchOrdering, int_cmp, int_eq, nat_cmp}
@@ -30,16 +30,19 @@ pub use Rattle.std.specs.Str.Parse.{AllDigits, IsNumeral, digits_value, digits_v
 pub use Rattle.std.specs.declared.alloc.Global.{Global}
 pub use Rattle.std.specs.declared.cmp.Ordering.{Ordering}
 pub use Rattle.std.specs.declared.cmp.Ordering.TheVariants.{Equal, Greater, Less}
-pub use Rattle.wi_fraction.specs.Arithmetic.{bounded, fraction_of, int_bounded, power_of, product_of, quotient_of}
+pub use Rattle.wi_fraction.specs.Arithmetic.{fraction_of, power_of, product_of, quotient_of, times_ten_to}
 unfoldable pub use Rattle.wi_fraction.specs.Arithmetic.{negated, sum_of}
 pub use Rattle.wi_fraction.specs.Decimal.{IsUnsignedDecimal}
-unfoldable pub use Rattle.wi_fraction.specs.Decimal.{all_places, decimal_text}
+unfoldable pub use Rattle.wi_fraction.specs.Decimal.{decimal_text}
 pub use Rattle.wi_fraction.specs.Gcd.{gcd}
 pub use Rattle.wi_fraction.specs.Gcd.Laws.{dvd_gcd_mul, dvd_of_dvd-mul, gcd-one, gcd_comm, gcd_from_IsGcd, is_gcd, same_lowest}
+pub use Rattle.wi_fraction.specs.Inner.Bounds.{bounded, int_bounded}
+unfoldable pub use Rattle.wi_fraction.specs.Inner.Bounds.{sum_by_steps}
 pub use Rattle.wi_fraction.specs.Inner.Halves.{from_halves}
 unfoldable pub use Rattle.wi_fraction.specs.Inner.Places.{places_from}
 pub use Rattle.wi_fraction.specs.Inner.Reading.{decimal_value, is_numeral, lowered, raised, read_quotient}
 unfoldable pub use Rattle.wi_fraction.specs.Inner.Reading.{decimal_after, exponent_after, point_after, read, read_after, read_decimal, read_size, scaled_after, with_exponent}
+pub use Rattle.wi_fraction.specs.Inner.Signs.{is_exponent_letter, sign_text}
 pub use Rattle.wi_fraction.specs.Inner.Words.{number_in}
 pub use Rattle.wi_fraction.specs.Laws.{DecimalsReadBack, HasFloor, IsExact, IsGreatestNotAbove, IsLeastNotBelow, IsNearest, IsRounded, NotAbove, NotBelow, ReadsBack, ReadsWhatIsSpelled, ReadsWhatIsWritten, ShowsFewestPlaces, distance}
 pub use Rattle.wi_fraction.specs.Number.{IsNumber, Number, max_size, number_at, signed}
@@ -48,11 +51,10 @@ pub use Rattle.wi_fraction.specs.Number.Laws.{abs-neg, number_at-is, number_at-n
 pub use Rattle.wi_fraction.specs.Order.{cross_cmp}
 unfoldable pub use Rattle.wi_fraction.specs.Order.{same_parts}
 pub use Rattle.wi_fraction.specs.Order.Integers.{by_rank, int_irrefl, mul-mul, mul_below, neg-pos-mul, turn}
-pub use Rattle.wi_fraction.specs.Rounding.{floor_of, rounded_size}
+pub use Rattle.wi_fraction.specs.Rounding.{rounded_size}
 unfoldable pub use Rattle.wi_fraction.specs.Rounding.{floored, rounded}
-pub use Rattle.wi_fraction.specs.Spelled.{IsFractionText, SpellsFraction, SpellsSize, minus, plain, plus, point, slash, whole}
-pub use Rattle.wi_fraction.specs.Text.{sign_text}
+pub use Rattle.wi_fraction.specs.Spelled.{IsFractionText, IsSign, SpellsFraction, SpellsSize, WritesDigits, minus, no_sign, plain, plus, point, pointed, slash, spells}
 unfoldable pub use Rattle.wi_fraction.specs.Text.{padded, places, size_text, text_of}
-pub use Rattle.wi_fraction.specs.Written.{IsDecimalText, WritesDecimal, WritesDigits, WritesExponent, is_exponent_letter, none, times_power, unsigned, writes, written_value}
+pub use Rattle.wi_fraction.specs.Written.{IsDecimalText, Writes, WritesExponent, none, power, writes}
 pub use Rattle.wi_fraction.specs.declared.rounding.Mode.{Mode}
 pub use Rattle.wi_fraction.specs.declared.rounding.Mode.TheVariants.{Away, HalfAway, Toward}

@@ -1,6 +1,6 @@
 -- Whole numbers near a number.
-use Rattle.wi_fraction.proofs.Vocabulary.{◌≡◌, ℕ, suc, ◌+◌, ◌-◌, ◌/◌, ℤ, pos, negsuc, neg_ℤ, unsigned_abs, int_lt, true, false, refl, sym, ◌∙◌, arith, nat_tests, Mode, Number, signed, same_number, floored, floor_of, rounded, rounded_size}
-use Rattle.wi_fraction.proofs.NearWholes.{floor_number, floored_is, rounded_number, rounded_is}
+use Rattle.wi_fraction.proofs.Vocabulary.{◌≡◌, ℕ, suc, ◌+◌, ◌-◌, ◌/◌, ℤ, pos, negsuc, neg_ℤ, unsigned_abs, int_lt, true, false, refl, sym, ◌∙◌, arith, nat_tests, Mode, Number, signed, same_number, floored, rounded, rounded_size}
+use Rattle.wi_fraction.proofs.NearWholes.{floor_of, floor_number, floored_is, rounded_number, rounded_is}
 
 -- ---- the floor
 

@@ -1,16 +1,12 @@
 -- The floor of a number, and rounding at decimal places.
-use Rattle.std.specs.Prelude.{ℕ, suc, ◌+◌, ◌-◌, ◌*◌, ◌/◌, ◌^◌, ℤ, pos, negsuc, neg_ℤ, ◌*ℤ◌, unsigned_abs, int_lt, nat_le, if◌then◌else◌, Option, None, unwrap_or}
+use Rattle.std.specs.Prelude.{ℕ, ◌+◌, ◌-◌, ◌*◌, ◌/◌, ℤ, pos, neg_ℤ, unsigned_abs, int_lt, nat_le, if◌then◌else◌, Option, None, unwrap_or}
+use Rattle.std.specs.Int.{int_div_euclid}
 use Rattle.wi_fraction.specs.declared.rounding.Mode.{Mode}
 use Rattle.wi_fraction.specs.Number.{Number, number_of, signed}
-use Rattle.wi_fraction.specs.Arithmetic.{◌>>=◌}
+use Rattle.wi_fraction.specs.Arithmetic.{◌>>=◌, times_ten_to}
 use Rattle.wi_fraction.specs.declared.rounding.Mode.TheVariants.{HalfAway, Away, Toward}
 
 -- ---- whole numbers
-
--- the greatest whole number not above n/d
-abbrev pub floor_of : ℤ → ℕ → ℤ
-floor_of (pos n) d = pos (n / d)
-floor_of (negsuc n) d = negsuc (n / d)
 
 -- for the size n/d: the nearest, the higher of two as near; the least not below; the greatest not above
 abbrev pub rounded_size : Mode → ℕ → ℕ → ℕ
@@ -18,9 +14,9 @@ rounded_size HalfAway n d = (2 * n + d) / (2 * d)
 rounded_size Away n d = (n + (d - 1)) / d
 rounded_size Toward n d = n / d
 
--- it fits, as x does
+-- the greatest whole number not above x, which fits, as x does
 unfoldable pub floored : Number → Number
-floored x = unwrap_or (number_of (floor_of x.num x.den) 1) x
+floored x = unwrap_or (number_of (int_div_euclid x.num (pos x.den)) 1) x
 
 -- it fits, as x does
 unfoldable pub rounded : Mode → Number → Number
@@ -28,10 +24,8 @@ rounded m x = unwrap_or (number_of (signed (int_lt x.num (pos 0)) (rounded_size 
 
 -- ---- places
 
-abbrev pub times_ten_to : ℤ → Number → Option Number
-times_ten_to (pos k) x = number_of (x.num *ℤ pos (10 ^ k)) x.den
-times_ten_to (negsuc k) x = number_of x.num (x.den * 10 ^ suc k)
-
 -- at k places, at most 38 before or after the point
 unfoldable pub round_to : Number → ℤ → Mode → Option Number
-round_to x k m = if nat_le (unsigned_abs k) 38 then times_ten_to k x >>= (λ y. times_ten_to (neg_ℤ k) (rounded m y)) else None
+round_to x k m =
+    if nat_le (unsigned_abs k) 38
+    then times_ten_to k x.num x.den >>= (λ y. times_ten_to (neg_ℤ k) (rounded m y).num (rounded m y).den) else None

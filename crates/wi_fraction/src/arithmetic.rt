@@ -4,7 +4,8 @@ ghost use Rattle.std.specs.Prelude.{◌≡◌, ◌≢◌, ◌*◌, ◌<◌, ◌�
 ghost use Rattle.std.specs.Ordering.{int_eq};
 ghost use Rattle.wi_fraction.specs.Gcd.{gcd};
 ghost use Rattle.wi_fraction.specs.Number.{max_size, number_of, signed};
-ghost use Rattle.wi_fraction.specs.Arithmetic.{bounded, int_bounded, sum_of, product_of, quotient_of, negated, IsValue};
+ghost use Rattle.wi_fraction.specs.Arithmetic.{sum_of, product_of, quotient_of, negated, IsValue};
+ghost use Rattle.wi_fraction.specs.Inner.Bounds.{bounded, int_bounded};
 
 use crate::division::{divide, gcd};
 use crate::lowest_terms::{integer, number_at, reduced};

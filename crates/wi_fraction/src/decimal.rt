@@ -3,8 +3,9 @@
 ghost use Rattle.std.specs.Prelude.{◌≡◌, ◌+◌, ◌*◌, ◌/◌, ◌%◌, ◌^◌, ◌<◌, ◌≤◌, ◌++◌, OnOk, OnErr, string_bytes};
 ghost use Rattle.std.specs.Io.{StartsWith};
 ghost use Rattle.wi_fraction.specs.Number.{max_size};
-ghost use Rattle.wi_fraction.specs.Text.{sign_text, size_text, padded};
-ghost use Rattle.wi_fraction.specs.Decimal.{all_places, decimal_text};
+ghost use Rattle.wi_fraction.specs.Text.{places, size_text, padded};
+ghost use Rattle.wi_fraction.specs.Decimal.{decimal_text};
+ghost use Rattle.wi_fraction.specs.Inner.Signs.{sign_text};
 
 use crate::Fraction;
 use crate::division::{divide, remainder};
@@ -47,7 +48,7 @@ fn push_exact(negative: bool, n: u128, d: u128, text: &mut String) -> Result<(),
     requires above_zero { 0 < d }
     requires fits { d ≤ max_size }
     ensures ok { OnOk result (string_bytes text.new
-        ≡ string_bytes text.old ++ (sign_text negative ++ size_text (all_places d) n d)) }
+        ≡ string_bytes text.old ++ (sign_text negative ++ size_text (places 126 d) n d)) }
     ensures kept { StartsWith (string_bytes text.new) (string_bytes text.old) }
 {
     let mut first = Buffer::new();
@@ -84,7 +85,7 @@ fn push_digits(n: u128, d: u128, places: u32, text: &mut String) -> Result<(), A
 fn all_places(d: u128) -> Option<u32>
     requires above_zero { 0 < d }
     requires fits { d ≤ max_size }
-    ensures { result ≡ all_places d }
+    ensures { result ≡ places 126 d }
 {
     let mut rest = remainder(1, d);
     for k in 0..127 {

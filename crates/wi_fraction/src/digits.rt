@@ -6,7 +6,7 @@ ghost use Rattle.std.specs.Int.{IsInRange};
 ghost use Rattle.std.specs.Str.Parse.{AllDigits, digits_value};
 ghost use Rattle.wi_fraction.specs.Gcd.{gcd};
 ghost use Rattle.wi_fraction.specs.Number.{max_size, number_of};
-ghost use Rattle.wi_fraction.specs.Arithmetic.{bounded};
+ghost use Rattle.wi_fraction.specs.Inner.Bounds.{bounded};
 ghost use Rattle.wi_fraction.specs.Inner.Reading.{decimal_value};
 
 use crate::lowest_terms::reduced;

@@ -4,7 +4,8 @@ ghost use Rattle.std.specs.Prelude.{◌≡◌, ◌^◌, ◌%◌, ◌<◌, ◌==�
 ghost use Rattle.std.specs.Ordering.{int_eq};
 ghost use Rattle.wi_fraction.specs.Gcd.{gcd};
 ghost use Rattle.wi_fraction.specs.Number.{number_of, signed};
-ghost use Rattle.wi_fraction.specs.Arithmetic.{bounded, power_of};
+ghost use Rattle.wi_fraction.specs.Arithmetic.{power_of};
+ghost use Rattle.wi_fraction.specs.Inner.Bounds.{bounded};
 
 use crate::lowest_terms::number_at;
 use crate::words::Parts;

@@ -6,7 +6,7 @@ ghost use Rattle.std.specs.List.{prefix_len};
 ghost use Rattle.std.specs.Str.Parse.{AllDigits, digits_value};
 ghost use Rattle.wi_fraction.specs.Gcd.{gcd};
 ghost use Rattle.wi_fraction.specs.Number.{max_size, number_of};
-ghost use Rattle.wi_fraction.specs.Arithmetic.{bounded};
+ghost use Rattle.wi_fraction.specs.Inner.Bounds.{bounded};
 ghost use Rattle.wi_fraction.specs.Inner.Reading.{read, read_size, read_after, read_quotient, read_decimal, decimal_after, point_after, scaled_after, exponent_after, with_exponent, raised, lowered, decimal_value, is_numeral};
 
 use crate::arithmetic::multiplied;

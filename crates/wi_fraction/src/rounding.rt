@@ -2,7 +2,8 @@
 
 ghost use Rattle.std.specs.Prelude.{◌≡◌, ◌+◌, ◌*◌, ◌/◌, ◌<◌, ◌≤◌, ok_or};
 ghost use Rattle.wi_fraction.specs.Number.{max_size, signed};
-ghost use Rattle.wi_fraction.specs.Rounding.{floored, rounded, rounded_size, round_to, times_ten_to};
+ghost use Rattle.wi_fraction.specs.Arithmetic.{times_ten_to};
+ghost use Rattle.wi_fraction.specs.Rounding.{floored, rounded, rounded_size, round_to};
 
 use crate::arithmetic::multiplied;
 use crate::division::{divide, remainder};
@@ -61,7 +62,7 @@ impl Fraction {
     /// The number times that power of ten, or divided by it.
     fn shifted(self, down: bool, power: u32) -> Option<Fraction>
         requires { power ≤ 38 }
-        ensures { result ≡ times_ten_to (signed down power) self }
+        ensures { result ≡ times_ten_to (signed down power) self.num self.den }
     {
         let Parts {
             numerator: n,

@@ -1,7 +1,8 @@
 // The shown text.
 
 ghost use Rattle.std.specs.Prelude.{◌≡◌, ◌+◌, ◌<◌, ◌≤◌, ◌^◌, ◌++◌, OnOk, OnErr, IfSome, string_bytes, length};
-ghost use Rattle.wi_fraction.specs.Text.{text_of, places, sign_text, size_text};
+ghost use Rattle.wi_fraction.specs.Text.{text_of, places, size_text};
+ghost use Rattle.wi_fraction.specs.Inner.Signs.{sign_text};
 ghost use Rattle.wi_fraction.specs.Inner.Places.{places_from};
 
 use crate::Fraction;
@@ -31,7 +32,7 @@ impl Fraction {
 #[tactic(auto, using(crate::proofs::Places::places_few), unfolding(crate::specs::Text::places, crate::specs::Inner::Places::places_from))]
 fn places(d: u128) -> Option<u32>
     requires { 0 < d }
-    ensures value { result ≡ places d }
+    ensures value { result ≡ places 12 d }
     ensures few { IfSome result (λ k. k ≤ 12) }
 {
     places_from(13, 0, 1, d)
@@ -57,7 +58,7 @@ fn places_from(tries: u32, k: u32, power: u128, d: u128) -> Option<u32>
 fn push_parts(negative: bool, n: u128, d: u128, text: &mut String) -> Result<(), AllocError>
     requires { 0 < d }
     ensures ok { OnOk result (string_bytes text.new
-        ≡ string_bytes text.old ++ (sign_text negative ++ size_text (places d) n d)) }
+        ≡ string_bytes text.old ++ (sign_text negative ++ size_text (places 12 d) n d)) }
     ensures err { OnErr result (string_bytes text.new ≡ string_bytes text.old) }
 {
     let mut first = Buffer::new();

@@ -1,6 +1,6 @@
 -- The parts of a cell are found exactly where the bytes are the text of one.
 use Rattle.wi_lexer.proofs.Words.{◌≡◌, ℕ, ◌<◌, Bool, true, false, cond, ◌&&◌, ◌==◌, List, [], ◌∷◌, ◌++◌, length, take, drop, Some, None, refl, sym, ap, ◌∙◌, subst, arith, nat_lt, slice_index, eqb-true, ltb-true, lt-ltb, and_parts, nat_tests, take-append-drop, drop-append_seam, take-append_seam, list_all, is_ascii_digit, is_ascii_alphabetic, IsRunOf, letters_len, WrittenCell, IsCell, dollar, cell_text, begins_with_dollar, after_dollar, cut_row, cut_column, is_row, is_cell, if_cell, cut, cell_of}
-use Rattle.wi_lexer.proofs.RunLemmas.{run_stops, run_more, run_all, all_append, all_wider}
+use Rattle.wi_lexer.proofs.RunLemmas.{run_stops, run_more, run_all, all_append, all_wider, cell_from_runs, letters_run, row_run}
 
 -- the text before and after a `$` that may stand first
 pub dollar_back : (bs : List ℕ) → dollar (begins_with_dollar bs) ++ after_dollar bs ≡ bs
@@ -27,11 +27,7 @@ is_cell_tells c h all =
     let p = and_parts (nat_lt 0 (length c.letters)) (is_row c.digits) h in
     let q = and_parts (nat_lt 48 (slice_index c.digits 0)) (list_all is_ascii_digit c.digits) p.1 in
     let first = ltb-true 48 (slice_index c.digits 0) q.0 in
-    record {
-      letters = record { some = ltb-true 0 (length c.letters) p.0; all = all };
-      digits = record { some = some_digit c.digits first; all = q.1 };
-      first = first;
-    }
+    cell_from_runs c (record { some = ltb-true 0 (length c.letters) p.0; all = all }) (record { some = some_digit c.digits first; all = q.1 }) first
 
 cut_back : (bs : List ℕ) → cell_text (cut bs) ≡ bs
 cut_back bs =
@@ -91,26 +87,26 @@ column_found f ls row all stop =
     ∙ ap (λ x. cut_row f ls x) (drop-append_seam ls row)
 
 is_cell_true : (c : WrittenCell) → IsCell c → is_cell c ≡ true
-is_cell_true c h = cc (lt-ltb 0 (length c.letters) h.letters.some, lt-ltb 48 (slice_index c.digits 0) h.first, h.digits.all)
+is_cell_true c h = cc (lt-ltb 0 (length c.letters) (letters_run c h).some, lt-ltb 48 (slice_index c.digits 0) h.first, (row_run c h).all)
 
 pub cell_complete : (c : WrittenCell) → IsCell c → cell_of (cell_text c) ≡ Some c
 unfolding cell_of
 cell_complete c h =
     let row = dollar c.row_is_absolute ++ c.digits in
     let column = c.letters ++ row in
-    let p = dollar_found c.column_is_absolute column (letter_no_dollar c.letters row h.letters) in
+    let p = dollar_found c.column_is_absolute column (letter_no_dollar c.letters row (letters_run c h)) in
     let whole : cut_column (begins_with_dollar (cell_text c)) (after_dollar (cell_text c)) ≡ c =
     ap (λ t. cut_column t (after_dollar (cell_text c))) p.0
     ∙ ap (λ x. cut_column c.column_is_absolute x) p.1
-    ∙ column_found c.column_is_absolute c.letters row h.letters.all (no_letter_first c.row_is_absolute c.digits h.digits)
-    ∙ row_found c.column_is_absolute c.row_is_absolute c.letters c.digits (digit_no_dollar c.digits h.digits) in
+    ∙ column_found c.column_is_absolute c.letters row (letters_run c h).all (no_letter_first c.row_is_absolute c.digits (row_run c h))
+    ∙ row_found c.column_is_absolute c.row_is_absolute c.letters c.digits (digit_no_dollar c.digits (row_run c h)) in
     ap if_cell whole ∙ ap (λ t. cond t (Some c) None) (is_cell_true c h)
 
 -- each byte of a cell is of a class that has the letters, the digits and `$`
 pub cell_all : (class : ℕ → Bool) → ((b : ℕ) → is_ascii_alphabetic b ≡ true → class b ≡ true) → ((b : ℕ) → is_ascii_digit b ≡ true → class b ≡ true) → class 36 ≡ true → (c : WrittenCell) → IsCell c → list_all class (cell_text c) ≡ true
 cell_all class letter digit sign c h =
-    let letters = all_wider is_ascii_alphabetic class letter c.letters h.letters.all in
-    let digits = all_wider is_ascii_digit class digit c.digits h.digits.all in
+    let letters = all_wider is_ascii_alphabetic class letter c.letters (letters_run c h).all in
+    let digits = all_wider is_ascii_digit class digit c.digits (row_run c h).all in
     let row = all_append class (dollar c.row_is_absolute) c.digits (dollar_all c.row_is_absolute) digits in
     all_append class (dollar c.column_is_absolute) (c.letters ++ (dollar c.row_is_absolute ++ c.digits)) (dollar_all c.column_is_absolute)
     (all_append class c.letters (dollar c.row_is_absolute ++ c.digits) letters row)

@@ -1,5 +1,5 @@
 -- A text may be cut after white space and after a token.
-use Rattle.wi_lexer.proofs.Words.{◌≡◌, ℕ, zero, suc, ◌+◌, ◌-◌, ◌<◌, ◌≤◌, ℤ, true, List, [], ◌∷◌, ◌++◌, length, take, get_or, IsUtf8, sym, ap, ◌∙◌, subst, arith, length-append, IsCharBoundary, is_ascii_digit, flat_map, IsNumeral, IsCharBoundary-start, IsCharBoundary-after_ascii, nat_tests, get_or-append-add, get_or-take, length-take-le, AllPass-from_list_all, prefix_len_passes, WritesDigits, plain, point, WritesExponent, none, unsigned, plus, minus, IsDecimalText, doubled, Kind, Number, Reference, Rectangle, Name, Text, Mark, NotEqual, is_blank, blanks_len, cell_text, IsReference, one_cell, IsRectangle, two_cells, IsName, is_name_part, IsText, of_content, mark_text, IsToken, IsLongest}
+use Rattle.wi_lexer.proofs.Words.{◌≡◌, ℕ, zero, suc, ◌+◌, ◌-◌, ◌<◌, ◌≤◌, ℤ, true, List, [], ◌∷◌, ◌++◌, length, take, get_or, IsUtf8, sym, ap, ◌∙◌, subst, arith, length-append, IsCharBoundary, is_ascii_digit, flat_map, IsNumeral, IsCharBoundary-start, IsCharBoundary-after_ascii, nat_tests, get_or-append-add, get_or-take, length-take-le, AllPass-from_list_all, prefix_len_passes, WritesDigits, plain, point, WritesExponent, none, power, IsDecimalText, doubled, Kind, Number, Reference, Rectangle, Name, Text, Mark, NotEqual, is_blank, blanks_len, cell_text, IsReference, one_cell, IsRectangle, two_cells, IsName, is_name_part, IsText, of_content, mark_text, IsToken, IsLongest}
 use Rattle.wi_lexer.specs.declared.token.Mark as mark
 use Rattle.wi_lexer.proofs.RunLemmas.{run_within, digits_all}
 use Rattle.wi_lexer.proofs.NumberLemmas.{number_cases}
@@ -48,9 +48,7 @@ decimal_last text _ _ (point ds es h i) = omega (arith, last_append ds (46 ∷ e
 
 exponent_last : (text : List ℕ) (k : ℤ) → WritesExponent text k → last text < 128
 exponent_last text k none = omega arith
-exponent_last text k (unsigned e ds letter h) = ends_in_digits (e ∷ []) ds h
-exponent_last text k (plus e ds letter h) = ends_in_digits (e ∷ 43 ∷ []) ds h
-exponent_last text k (minus e ds letter h) = ends_in_digits (e ∷ 45 ∷ []) ds h
+exponent_last text k (power e sign ds s letter is h) = ends_in_digits (e ∷ sign) ds h
 
 number_last : (text : List ℕ) → IsDecimalText text → last text < 128
 number_last = number_cases (λ text. last text < 128) record {

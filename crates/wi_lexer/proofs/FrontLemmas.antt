@@ -1,6 +1,6 @@
 -- What stands at the front of a text: a cell that is found there, and each cell that stands there.
 use Rattle.wi_lexer.proofs.Words.{◌≡◌, ℕ, ◌+◌, ◌<◌, ◌≤◌, Bool, true, false, cond, ◌&&◌, ◌==◌, List, [], ◌∷◌, ◌++◌, length, take, drop, refl, sym, ap, ap₂, ◌∙◌, subst, arith, append_assoc, length-append, nat_lt, slice_index, eqb-true, ltb-true, lt-ltb, and_parts, and_from, nat_tests, ne_eqb, get_or-take, length-take-le, take-append-drop, drop-append_seam, take-append_seam, list_all, is_ascii_digit, is_ascii_alphabetic, IsRunOf, letters_len, digits_len, WrittenCell, IsCell, dollar, cell_text, begins_with_dollar, after_dollar, dollar_len, past_dollar, column_len, row_len, cell_len, first_len}
-use Rattle.wi_lexer.proofs.RunLemmas.{run_within, run_stops, run_more, run_all}
+use Rattle.wi_lexer.proofs.RunLemmas.{run_within, run_stops, run_more, run_all, cell_from_runs, letters_run, row_run}
 use Rattle.wi_lexer.proofs.CellLemmas.{dollar_back, dollar_found, letter_no_dollar, digit_no_dollar}
 
 -- ---- lengths that are 0 where a test fails
@@ -166,7 +166,7 @@ cell_front bs h =
     record {
       cell = record { column_is_absolute = c.absolute; letters = c.letters; row_is_absolute = r.absolute; digits = r.digits };
       rest = r.rest;
-      is = record { letters = c.run; digits = r.run; first = r.first };
+      is = cell_from_runs (record { column_is_absolute = c.absolute; letters = c.letters; row_is_absolute = r.absolute; digits = r.digits }) c.run r.run r.first;
       whole =
           parts_joined (dollar c.absolute) c.letters (dollar r.absolute) r.digits r.rest
           ∙ ap (λ x. dollar c.absolute ++ (c.letters ++ x)) (r.whole ∙ left)
@@ -184,17 +184,17 @@ cell_whole c h rest stop =
     let bs = cell_text c ++ rest in
     let apart : bs ≡ f ++ (c.letters ++ row) = parts_joined f c.letters g c.digits rest in
     let n : column_len bs ≡ length f + length c.letters =
-    ap column_len apart ∙ column_whole c.column_is_absolute c.letters row h.letters (row_no_letter c.row_is_absolute c.digits rest h.digits) in
+    ap column_len apart ∙ column_whole c.column_is_absolute c.letters row (letters_run c h) (row_no_letter c.row_is_absolute c.digits rest (row_run c h)) in
     let left : drop (column_len bs) bs ≡ row = seam (f ++ c.letters) row bs (column_len bs) (append_assoc f c.letters row ∙ sym apart) (length-append f c.letters ∙ sym n) in
-    let m : row_len (drop (column_len bs) bs) ≡ length g + length c.digits = ap row_len left ∙ row_whole c.row_is_absolute c.digits rest h.digits h.first stop in
-    let column = lt-ltb 0 (column_len bs) (omega (arith, n, h.letters.some)) in
-    let digits = lt-ltb 0 (row_len (drop (column_len bs) bs)) (omega (arith, m, h.digits.some)) in
+    let m : row_len (drop (column_len bs) bs) ≡ length g + length c.digits = ap row_len left ∙ row_whole c.row_is_absolute c.digits rest (row_run c h) h.first stop in
+    let column = lt-ltb 0 (column_len bs) (omega (arith, n, (letters_run c h).some)) in
+    let digits = lt-ltb 0 (row_len (drop (column_len bs) bs)) (omega (arith, m, (row_run c h).some)) in
     kept (nat_lt 0 (column_len bs) && nat_lt 0 (row_len (drop (column_len bs) bs))) (column_len bs + row_len (drop (column_len bs) bs))
     (and_from (nat_lt 0 (column_len bs)) (nat_lt 0 (row_len (drop (column_len bs) bs))) column digits)
     ∙ ap₂ (λ a b. a + b) n m ∙ sym (parts_long f c.letters g c.digits)
 
 cell_some : (c : WrittenCell) → IsCell c → 0 < length (cell_text c)
-cell_some c h = omega (arith, parts_long (dollar c.column_is_absolute) c.letters (dollar c.row_is_absolute) c.digits, h.letters.some)
+cell_some c h = omega (arith, parts_long (dollar c.column_is_absolute) c.letters (dollar c.row_is_absolute) c.digits, (letters_run c h).some)
 
 pub cell_found : (c : WrittenCell) → IsCell c → (rest : List ℕ) → digits_len rest ≡ 0 → nat_lt 0 (cell_len (cell_text c ++ rest)) ≡ true
 cell_found c h rest stop = lt-ltb 0 (cell_len (cell_text c ++ rest)) (omega (arith, cell_whole c h rest stop, cell_some c h))

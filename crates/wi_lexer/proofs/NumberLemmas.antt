@@ -1,5 +1,7 @@
 -- The number found at the front is one, and no number there is longer.
-use Rattle.wi_lexer.proofs.Words.{◌≡◌, ℕ, suc, ◌+◌, ◌<◌, ◌≤◌, ℤ, pos, Bool, true, false, cond, ◌||◌, ◌==◌, ◌⊎◌, inl, inr, List, [], ◌∷◌, ◌++◌, length, take, drop, refl, sym, ap, ◌∙◌, subst, arith, append_assoc, append-nil, length-append, length-drop, nat_lt, eqb-true, ltb-true, ltb-false, lt-ltb, nat_tests, take-add, drop-append_seam, is_ascii_digit, IsNumeral, WritesDigits, is_exponent_letter, WritesExponent, none as no_exponent, unsigned, plus, minus, WritesDecimal, writes, IsDecimalText, letter_no_digit, letter_no_point, digits_len, one_longer, is_sign_byte, decimals_len, decimal_len, signed_len, exponent_len, number_len}
+use Rattle.wi_lexer.proofs.Words.{◌≡◌, ℕ, suc, ◌+◌, ◌<◌, ◌≤◌, ℤ, pos, Bool, true, false, cond, ◌||◌, ◌==◌, ◌⊎◌, inl, inr, List, [], ◌∷◌, ◌++◌, length, take, drop, refl, sym, ap, ◌∙◌, subst, arith, append_assoc, append-nil, length-append, length-drop, nat_lt, eqb-true, ltb-true, ltb-false, lt-ltb, nat_tests, take-add, drop-append_seam, is_ascii_digit, IsNumeral, WritesDigits, is_exponent_letter, WritesExponent, none as no_exponent, power, IsSign, no_sign, plus, minus, Writes, writes, IsDecimalText, capital_from_letter, letter_from_capital, letter_no_digit, letter_no_point, digits_len, one_longer, is_sign_byte, decimals_len, decimal_len, signed_len, exponent_len, number_len}
+use Rattle.std.specs.Prelude.{Option}
+use Rattle.wi_fraction.specs.Number.{Number as Numbers}
 use Rattle.wi_lexer.proofs.RunLemmas.{run_within, run_stops, run_more, digits_all, one_longer_some, one_longer_back, one_longer_within}
 use Rattle.wi_lexer.proofs.DecimalLemmas.{digits_front, SomeDigits, decimal_some, decimal_more, decimal_within, decimal_sound, no_point, decimal_exact}
 
@@ -33,8 +35,8 @@ signed_writes : (e s : ℕ) (ds : List ℕ) → is_exponent_letter e ≡ true �
 signed_writes e s ds letter sign digits = by_plus (s == 43) refl sign
   where
     by_plus : (b : Bool) → (s == 43) ≡ b → (b || s == 45) ≡ true → SomeExponent (e ∷ s ∷ ds)
-    by_plus true f g = subst (λ t. SomeExponent (e ∷ t ∷ ds)) (sym (eqb-true s 43 f)) (_, plus e ds letter digits)
-    by_plus false f g = subst (λ t. SomeExponent (e ∷ t ∷ ds)) (sym (eqb-true s 45 g)) (_, minus e ds letter digits)
+    by_plus true f g = subst (λ t. SomeExponent (e ∷ t ∷ ds)) (sym (eqb-true s 43 f)) (_, power e (43 ∷ []) ds false (capital_from_letter e letter) plus digits)
+    by_plus false f g = subst (λ t. SomeExponent (e ∷ t ∷ ds)) (sym (eqb-true s 45 g)) (_, power e (45 ∷ []) ds true (capital_from_letter e letter) minus digits)
 
 -- a letter and what is found after it
 signed_sound : (e : ℕ) → is_exponent_letter e ≡ true → (bs : List ℕ) → 0 < signed_len bs → SomeExponent (e ∷ take (signed_len bs) bs)
@@ -49,7 +51,7 @@ signed_sound e letter (b ∷ bs) some = go (is_sign_byte b) refl some
     go true is h =
         let digits = one_longer_back (digits_len bs) h in
         subst found (sym (one_longer_some (digits_len bs) digits)) (signed_writes e b (take (digits_len bs) bs) letter is (digits_front bs digits))
-    go false is h = (_, unsigned e (take (digits_len (b ∷ bs)) (b ∷ bs)) letter (digits_front (b ∷ bs) h))
+    go false is h = (_, power e [] (take (digits_len (b ∷ bs)) (b ∷ bs)) false (capital_from_letter e letter) no_sign (digits_front (b ∷ bs) h))
 
 -- the exponent that is found, or none
 exponent_sound : (bs : List ℕ) → SomeExponent (take (exponent_len bs) bs)
@@ -103,6 +105,11 @@ signed_found e s ds rest letter sign h =
     let found = letter_found e (s ∷ ds ++ rest) letter (omega (arith, digits)) in
     omega (arith, m, digits, found)
 
+sign_then_digits : (sign : List ℕ) (s : Bool) → IsSign sign s → (e : ℕ) (ds rest : List ℕ) → is_exponent_letter e ≡ true → IsNumeral 10 ds → exponent_len ((e ∷ sign ++ ds) ++ rest) ≡ length (e ∷ sign ++ ds) + digits_len rest
+sign_then_digits sign s no_sign e ds rest letter h = unsigned_found e ds rest letter h
+sign_then_digits sign s plus e ds rest letter h = signed_found e 43 ds rest letter refl h
+sign_then_digits sign s minus e ds rest letter h = signed_found e 45 ds rest letter refl h
+
 -- An exponent that begins with a letter is found with the digits that follow it.
 pub record HasLetter (text : List ℕ) : Type 0 where
   pub letter : ℕ
@@ -113,12 +120,9 @@ pub record HasLetter (text : List ℕ) : Type 0 where
 
 has_letter : (text : List ℕ) (k : ℤ) → WritesExponent text k → (text ≡ []) ⊎ HasLetter text
 has_letter text k no_exponent = inl refl
-has_letter text k (unsigned e ds letter h) =
-    inr record { letter = e; after = ds; is = refl; test = letter; found = λ rest. unsigned_found e ds rest letter h }
-has_letter text k (plus e ds letter h) =
-    inr record { letter = e; after = 43 ∷ ds; is = refl; test = letter; found = λ rest. signed_found e 43 ds rest letter refl h }
-has_letter text k (minus e ds letter h) =
-    inr record { letter = e; after = 45 ∷ ds; is = refl; test = letter; found = λ rest. signed_found e 45 ds rest letter refl h }
+has_letter text k (power e sign ds s letter is h) =
+    let test = letter_from_capital e letter in
+    inr record { letter = e; after = sign ++ ds; is = refl; test = test; found = λ rest. sign_then_digits sign s is e ds rest test h }
 
 -- ---- numbers
 
@@ -131,15 +135,15 @@ with_exponent : (P : List ℕ → Type 0) → ByExponent P → (text ds es : Lis
 with_exponent P p text ds es d exponent k e (inl empty) = subst P (sym (ap (λ x. text ++ x) empty ∙ append-nil text)) (p.alone text ds es d)
 with_exponent P p text ds es d exponent k e (inr letter) = p.scaled text ds es d exponent k e letter
 
-by_exponent : (P : List ℕ → Type 0) → ByExponent P → (text ds es : List ℕ) (k : ℤ) → WritesDecimal text ds es k → P text
-by_exponent P p text _ _ _ (writes front exponent ds es k d e) = with_exponent P p front ds es d exponent k e (has_letter exponent k e)
+by_exponent : (P : List ℕ → Type 0) → ByExponent P → (text : List ℕ) (o : Option Numbers) → Writes text o → P text
+by_exponent P p text _ (writes front exponent ds es k d e) = with_exponent P p front ds es d exponent k e (has_letter exponent k e)
 
 pub number_cases : (P : List ℕ → Type 0) → ByExponent P → (text : List ℕ) → IsDecimalText text → P text
-number_cases P p text w = by_exponent P p text w.0 w.1 w.2 w.3
+number_cases P p text w = by_exponent P p text w.0 w.1
 
 -- digits alone are a number
 pub digits_alone : (text : List ℕ) → SomeDigits text → IsDecimalText text
-digits_alone text d = subst IsDecimalText (append-nil text) (d.0, d.1, pos 0, writes text [] d.0 d.1 (pos 0) d.2 no_exponent)
+digits_alone text d = subst IsDecimalText (append-nil text) (_, writes text [] d.0 d.1 (pos 0) d.2 no_exponent)
 
 pub number_some : (text : List ℕ) → IsDecimalText text → 0 < length text
 number_some = number_cases (λ text. 0 < length text) record {
@@ -221,7 +225,7 @@ decimal_then bs some =
     let m = exponent_len (drop n bs) in
     let d = decimal_sound bs some in
     let e = exponent_sound (drop n bs) in
-    subst IsDecimalText (sym (take-add n m bs)) (d.0, d.1, e.0, writes (take n bs) (take m (drop n bs)) d.0 d.1 e.0 d.2 e.1)
+    subst IsDecimalText (sym (take-add n m bs)) (_, writes (take n bs) (take m (drop n bs)) d.0 d.1 e.0 d.2 e.1)
 
 pub number_sound : (bs : List ℕ) → 0 < number_len bs → IsDecimalText (take (number_len bs) bs)
 number_sound bs = number_by (λ n. 0 < n → IsDecimalText (take n bs)) bs (λ none some. absurd (omega (arith, some))) (λ some _. decimal_then bs some)

@@ -1,5 +1,5 @@
 -- Runs of bytes of one class.
-use Rattle.wi_lexer.proofs.Words.{◌≡◌, ℕ, suc, ◌+◌, ◌<◌, ◌≤◌, Bool, true, false, cond, ◌⊎◌, inl, inr, List, [], ◌∷◌, ◌++◌, length, take, refl, sym, ap, ◌∙◌, subst, arith, nat_lt, cases_Bool, ltb-true, lt-ltb, and_parts, prefix_len, list_all, prefix_len-le-length, is_ascii_digit, AllDigits, IsNumeral, own, digits_same, IsRunOf, one_longer}
+use Rattle.wi_lexer.proofs.Words.{◌≡◌, ℕ, suc, ◌+◌, ◌<◌, ◌≤◌, Bool, true, false, cond, ◌⊎◌, inl, inr, List, [], ◌∷◌, ◌++◌, length, take, refl, sym, ap, ◌∙◌, subst, arith, nat_lt, cases_Bool, ltb-true, lt-ltb, and_parts, prefix_len, list_all, prefix_len-le-length, is_ascii_digit, AllDigits, IsNumeral, own, digits_same, IsRunOf, one_longer, WrittenCell, IsCell, is_ascii_alphabetic, slice_index}
 
 pub run_within : (class : ℕ → Bool) (bs : List ℕ) → prefix_len class bs ≤ length bs
 run_within class bs = prefix_len-le-length class bs
@@ -50,6 +50,18 @@ digits_all ds h = sym (digits_same ds) ∙ own.from ds h
 
 pub digits_run : (ds : List ℕ) → IsNumeral 10 ds → IsRunOf is_ascii_digit ds
 digits_run ds h = record { some = h.0; all = digits_all ds h.1 }
+
+-- ---- the letters and the digits of a cell
+
+pub letters_run : (c : WrittenCell) → IsCell c → IsRunOf is_ascii_alphabetic c.letters
+letters_run c h = record { some = h.some; all = h.letters }
+
+pub row_run : (c : WrittenCell) → IsCell c → IsRunOf is_ascii_digit c.digits
+row_run c h = digits_run c.digits h.digits
+
+pub cell_from_runs : (c : WrittenCell) → IsRunOf is_ascii_alphabetic c.letters → IsRunOf is_ascii_digit c.digits → 48 < slice_index c.digits 0 → IsCell c
+cell_from_runs c letters row first =
+    record { some = letters.some; letters = letters.all; digits = (row.some, own.to c.digits (digits_same c.digits ∙ row.all)); first = first }
 
 -- ---- a length and one byte before it
 

@@ -16,8 +16,10 @@ pub use Rattle.std.specs.Prelude.{nat_lt, slice_index}
 pub use Rattle.std.specs.Str.{IsCharBoundary}
 pub use Rattle.std.specs.Str.Parse.{AllDigits, IsNumeral}
 pub use Rattle.wi_fraction.proofs.Scanning.{digits_before, digits_same, own}
-pub use Rattle.wi_fraction.proofs.Written.{letter_no_digit, letter_no_point}
-pub use Rattle.wi_fraction.specs.Written.{IsDecimalText, WritesDecimal, WritesDigits, WritesExponent, is_exponent_letter, minus, none, plain, plus, point, unsigned, writes}
+pub use Rattle.wi_fraction.proofs.Written.{capital_from_letter, letter_from_capital, letter_no_digit, letter_no_point}
+pub use Rattle.wi_fraction.specs.Inner.Signs.{is_exponent_letter}
+pub use Rattle.wi_fraction.specs.Spelled.{IsSign, WritesDigits, minus, no_sign, plain, plus, point}
+pub use Rattle.wi_fraction.specs.Written.{IsDecimalText, Writes, WritesExponent, none, power, writes}
 pub use Rattle.wi_lexer.specs.Cell.{WrittenCell, IsCell, cell_text, dollar}
 pub use Rattle.wi_lexer.specs.Inner.Cell.{after_dollar, begins_with_dollar, cut, cut_column, cut_row, dollar_len, if_cell, is_cell, is_row, past_dollar}
 unfoldable pub use Rattle.wi_lexer.specs.Inner.Cell.{cell_len, cell_of, column_len, row_len}
@@ -30,7 +32,7 @@ pub use Rattle.wi_lexer.specs.Inner.Rectangle.{begins_second, both_cells, cells_
 unfoldable pub use Rattle.wi_lexer.specs.Inner.Rectangle.{corner_cells, rectangle_len, rectangle_of, second_len}
 pub use Rattle.wi_lexer.specs.Inner.Reference.{inside, is_bracketed}
 unfoldable pub use Rattle.wi_lexer.specs.Inner.Reference.{first_len, reference_len, reference_of}
-pub use Rattle.wi_lexer.specs.Inner.Runs.{before_colon_len, digits_len, is_before_colon, letters_len, one_longer}
+pub use Rattle.wi_lexer.specs.Inner.Runs.{IsRunOf, before_colon_len, digits_len, is_before_colon, letters_len, one_longer}
 pub use Rattle.wi_lexer.specs.Inner.Text.{text_len}
 unfoldable pub use Rattle.wi_lexer.specs.Inner.Text.{content_from, quoted_len, text_content}
 pub use Rattle.wi_lexer.specs.Inner.Token.{brackets_at, mark_token, of_length}
@@ -43,7 +45,7 @@ pub use Rattle.wi_lexer.specs.Name.{IsName, is_name_part, is_name_start}
 pub use Rattle.wi_lexer.specs.Quoted.{doubled, quoted}
 pub use Rattle.wi_lexer.specs.Rectangle.{IsRectangle, rectangle_text, two_cells}
 pub use Rattle.wi_lexer.specs.Reference.{IsReference, one_cell}
-pub use Rattle.wi_lexer.specs.Runs.{IsRunOf, blanks_len, is_blank}
+pub use Rattle.wi_lexer.specs.Runs.{blanks_len, is_blank}
 pub use Rattle.wi_lexer.specs.Scan.{Scan}
 pub use Rattle.wi_lexer.specs.Text.{IsText, of_content}
 pub use Rattle.wi_lexer.specs.Token.{IsLongest, IsToken, NoToken, after_blanks}

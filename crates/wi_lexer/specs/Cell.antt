@@ -1,8 +1,9 @@
 -- Cells as a formula writes them: a column in letters, a row in digits, `$` before a part that is absolute.
-use Rattle.std.specs.Prelude.{◌<◌, Bool, if◌then◌else◌, ◌++◌, slice_index, codes, []}
-use Rattle.std.specs.Char.{is_ascii_digit, is_ascii_alphabetic}
+use Rattle.std.specs.Prelude.{◌≡◌, ◌<◌, Bool, true, if◌then◌else◌, ◌++◌, length, slice_index, codes, []}
+use Rattle.std.specs.List.{list_all}
+use Rattle.std.specs.Char.{is_ascii_alphabetic}
 use Rattle.std.specs.Str.{byte}
-use Rattle.wi_lexer.specs.Runs.{IsRunOf}
+use Rattle.std.specs.Str.Parse.{IsNumeral}
 use Rattle.wi_fraction.specs.Text.{Bytes}
 
 -- a cell as written
@@ -14,8 +15,9 @@ pub record WrittenCell : Type 0 where
 
 -- Some letters, and digits of which the first isn't 0.
 pub record IsCell (c : WrittenCell) : Type 0 where
-  pub letters : IsRunOf is_ascii_alphabetic c.letters
-  pub digits : IsRunOf is_ascii_digit c.digits
+  pub some : 0 < length c.letters
+  pub letters : list_all is_ascii_alphabetic c.letters ≡ true
+  pub digits : IsNumeral 10 c.digits
   pub first : byte "0" < slice_index c.digits 0
 
 abbrev pub dollar : Bool → Bytes

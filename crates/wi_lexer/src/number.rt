@@ -1,7 +1,7 @@
 //! Where a number ends.
 
 ghost use Rattle.std.specs.Prelude.{◌≡◌, length, ◌≤◌};
-ghost use Rattle.wi_fraction.specs.Written.{is_exponent_letter};
+ghost use Rattle.wi_fraction.specs.Inner.Signs.{is_exponent_letter};
 ghost use Rattle.wi_lexer.specs.Inner.Number as reader;
 
 use crate::runs::{byte, digits_len};

@@ -34,7 +34,7 @@ pub use Rattle.wi_fraction.proofs.NearWholes.{of_parts}
 pub use Rattle.wi_fraction.proofs.Reading.{bounded-small}
 pub use Rattle.wi_fraction.proofs.Steps.{mul-one-int, sum_from_steps}
 pub use Rattle.wi_fraction.proofs.Values.{mul-none}
-pub use Rattle.wi_fraction.specs.Arithmetic.{bounded, int_bounded}
+pub use Rattle.wi_fraction.specs.Inner.Bounds.{bounded, int_bounded}
 pub use Rattle.wi_fraction.specs.Gcd.{gcd}
 pub use Rattle.wi_fraction.specs.Gcd.Laws.{gcd-one}
 pub use Rattle.wi_fraction.specs.Number.{max_size, number_of}

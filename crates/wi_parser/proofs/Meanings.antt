@@ -1,5 +1,5 @@
 -- A text means a symbol where it is a token that stands for it.
-use Rattle.wi_parser.proofs.Words.{◌≡◌, ◌↔◌, ℕ, ℤ, ◌⊎◌, inl, inr, List, Option, Some, None, refl, sym, ap, ap₂, ◌∙◌, subst, Number as Numbers, read_decimal, WritesDecimal, IsDecimalText, written_value, reads_what_is_written, quoted, Kind, Text, Rectangle, Mark, Name, OpenParenthesis, CloseParenthesis, Semicolon, Asterisk, Slash, Caret, Percent, Ampersand, Equal, NotEqual, Less, LessOrEqual, Greater, GreaterOrEqual, WrittenCell, IsCell, mark_text, IsRectangle, two_cells, rectangle_text, IsReference, one_cell, reference_text, IsText, of_content, IsToken, reference_of_complete, rectangle_of_complete, text_reads_back, Operator, OutOfSheet, number_symbol, cell_symbol, reference_symbol, corners_symbol, rectangle_symbol, mark_symbol, symbol_of, reference_to, operator_text, Symbol, text_literal, bad_token, infix_mark, Means}
+use Rattle.wi_parser.proofs.Words.{◌≡◌, ◌↔◌, ℕ, ◌⊎◌, inl, inr, List, Option, Some, None, refl, sym, ap, ap₂, ◌∙◌, subst, Number as Numbers, read_decimal, Writes, IsDecimalText, reads_what_is_written, quoted, Kind, Text, Rectangle, Mark, Name, OpenParenthesis, CloseParenthesis, Semicolon, Asterisk, Slash, Caret, Percent, Ampersand, Equal, NotEqual, Less, LessOrEqual, Greater, GreaterOrEqual, WrittenCell, IsCell, mark_text, IsRectangle, two_cells, rectangle_text, IsReference, one_cell, reference_text, IsText, of_content, IsToken, reference_of_complete, rectangle_of_complete, text_reads_back, Operator, OutOfSheet, number_symbol, cell_symbol, reference_symbol, corners_symbol, rectangle_symbol, mark_symbol, symbol_of, reference_to, operator_text, Symbol, text_literal, bad_token, infix_mark, Means}
 use Rattle.wi_lexer.specs.declared.token.Kind.TheVariants.{Number, Reference}
 use Rattle.wi_lexer.specs.declared.token.Mark as mark
 use Rattle.wi_lexer.specs.declared.token.Mark.TheVariants.{Plus, Minus}
@@ -14,12 +14,12 @@ use Rattle.wi_parser.specs.Symbol.{close_parenthesis, corners, name, numeral, op
 
 -- ---- a token means what it stands for
 
-value_means : (text whole parts : List ℕ) (k : ℤ) → WritesDecimal text whole parts k → (o : Option Numbers) → written_value whole parts k ≡ o → Means text (number_symbol o)
-value_means text whole parts k w None e = (whole, parts, k, w, e)
-value_means text whole parts k w (Some x) e = (whole, parts, k, w, e)
+value_means : (text : List ℕ) (o : Option Numbers) → Writes text o → Means text (number_symbol o)
+value_means text None w = w
+value_means text (Some x) w = w
 
 number_means : (text : List ℕ) → IsDecimalText text → Means text (number_symbol (read_decimal text))
-number_means text w = value_means text w.0 w.1 w.2 w.3 (read_decimal text) (sym (reads_what_is_written.value text w.0 w.1 w.2 w.3))
+number_means text w = subst (λ o. Means text (number_symbol o)) (sym (reads_what_is_written.value text w.0 w.1)) (value_means text w.0 w.1)
 
 text_means : (text : List ℕ) → IsText text → Means text (symbol_of Text text)
 text_means text (of_content content) = subst (λ c. Means (quoted content) (text_literal c)) (sym (text_reads_back content)) refl
@@ -93,7 +93,7 @@ abbrev pub StandsFor : List ℕ → Symbol → Type 0
 StandsFor text s = (k : Kind) × IsToken k text × (symbol_of k text ≡ s)
 
 pub means_token : (text : List ℕ) (s : Symbol) → Means text s → StandsFor text s
-means_token text (numeral x) h = (Number, (h.0, h.1, h.2, h.3), ap number_symbol (reads_what_is_written.value text h.0 h.1 h.2 h.3 ∙ h.4))
+means_token text (numeral x) h = (Number, (Some x, h), ap number_symbol (reads_what_is_written.value text (Some x) h))
 means_token text (text_literal content) h = subst (λ t. StandsFor t (text_literal content)) (sym h) (Text, of_content content, ap text_literal (text_reads_back content))
 means_token text (reference r) h =
     subst (λ t. StandsFor t (reference r)) (sym h.2) (Reference, one_cell h.0 h.1, ap reference_symbol (reference_of_complete h.0 h.1) ∙ ap cell_symbol h.3)
@@ -107,7 +107,7 @@ means_token text percent_mark h = (Mark Percent, h, refl)
 means_token text (infix_mark op) h = (Mark (mark_of op), h ∙ operator_is op, operator_means op)
 means_token text what_if_name h = (Name, h.0, ap (λ (b : Bool). if b then what_if_name else name (map to_ascii_uppercase text)) h.1)
 means_token text (name f) h = (Name, h.0, ap (λ (b : Bool). if b then what_if_name else name (map to_ascii_uppercase text)) h.1 ∙ ap name h.2)
-means_token text (bad_token NumberRange) h = (Number, (h.0, h.1, h.2, h.3), ap number_symbol (reads_what_is_written.value text h.0 h.1 h.2 h.3 ∙ h.4))
+means_token text (bad_token NumberRange) h = (Number, (None, h), ap number_symbol (reads_what_is_written.value text None h))
 means_token text (bad_token OutOfSheet) (inl h) =
     subst (λ t. StandsFor t (bad_token OutOfSheet)) (sym h.2) (Reference, one_cell h.0 h.1, ap reference_symbol (reference_of_complete h.0 h.1) ∙ ap cell_symbol h.3)
 means_token text (bad_token OutOfSheet) (inr h) =

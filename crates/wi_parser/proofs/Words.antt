@@ -36,13 +36,15 @@ pub use Rattle.wi_fraction.proofs.Places.{all_none}
 pub use Rattle.wi_fraction.proofs.ReadsBack.{div_small}
 pub use Rattle.wi_fraction.proofs.Values.{then_some}
 pub use Rattle.wi_fraction.proofs.Written.{reads_what_is_written}
-pub use Rattle.wi_fraction.specs.Decimal.{IsUnsignedDecimal, all_places}
+pub use Rattle.wi_fraction.specs.Decimal.{IsUnsignedDecimal}
 unfoldable pub use Rattle.wi_fraction.specs.Decimal.{decimal_text}
 pub use Rattle.wi_fraction.specs.Inner.Reading.{read_decimal}
+pub use Rattle.wi_fraction.specs.Inner.Signs.{sign_text}
 pub use Rattle.wi_fraction.specs.Number.{Number, max_size}
-pub use Rattle.wi_fraction.specs.Text.{padded, sign_text}
+pub use Rattle.wi_fraction.specs.Text.{padded, places}
 unfoldable pub use Rattle.wi_fraction.specs.Text.{size_text}
-pub use Rattle.wi_fraction.specs.Written.{IsDecimalText, WritesDecimal, WritesDigits, plain, point, written_value}
+pub use Rattle.wi_fraction.specs.Spelled.{WritesDigits, plain, point}
+pub use Rattle.wi_fraction.specs.Written.{IsDecimalText, Writes}
 pub use Rattle.wi_fraction.specs.declared.Fraction.{Fraction}
 pub use Rattle.wi_lexer.proofs.CallerLemmas.{found_ahead, next_shortens, token_is, token_shortens, tokens_are, tokens_bad, tokens_end, tokens_next}
 pub use Rattle.wi_lexer.proofs.DecimalLemmas.{SomeDigits}
@@ -51,7 +53,7 @@ pub use Rattle.wi_lexer.proofs.NumberLemmas.{digits_alone}
 pub use Rattle.wi_lexer.proofs.QuoteLemmas.{no_quote_left, piece_before, text_reads_back}
 pub use Rattle.wi_lexer.proofs.RectangleLemmas.{rectangle_of_complete}
 pub use Rattle.wi_lexer.proofs.ReferenceLemmas.{reference_of_complete}
-pub use Rattle.wi_lexer.proofs.RunLemmas.{digits_all, digits_run, run_more, run_stops}
+pub use Rattle.wi_lexer.proofs.RunLemmas.{cell_from_runs, digits_all, digits_run, run_more, run_stops}
 pub use Rattle.wi_lexer.proofs.TextLemmas.{by_length, tokens_hold}
 pub use Rattle.wi_lexer.proofs.TokenLemmas.{none_begins, none_found, token_complete, token_some, token_sound}
 pub use Rattle.wi_lexer.specs.Cell.{WrittenCell, IsCell}
@@ -72,7 +74,8 @@ pub use Rattle.wi_lexer.specs.Name.{IsName, is_name_part, is_name_start}
 pub use Rattle.wi_lexer.specs.Quoted.{doubled, quoted}
 pub use Rattle.wi_lexer.specs.Rectangle.{IsRectangle, rectangle_text, two_cells}
 pub use Rattle.wi_lexer.specs.Reference.{IsReference, one_cell, reference_text}
-pub use Rattle.wi_lexer.specs.Runs.{IsRunOf, blanks_len, is_blank}
+pub use Rattle.wi_lexer.specs.Inner.Runs.{IsRunOf}
+pub use Rattle.wi_lexer.specs.Runs.{blanks_len, is_blank}
 pub use Rattle.wi_lexer.specs.Scan.{Scan}
 pub use Rattle.wi_lexer.specs.Text.{IsText, of_content}
 pub use Rattle.wi_lexer.specs.Token.{IsLongest, IsToken, NoToken, after_blanks}

@@ -1,5 +1,5 @@
 -- The text of a symbol is a token that means the symbol.
-use Rattle.wi_parser.proofs.Words.{◌≡◌, ◌≢◌, ℕ, zero, suc, ◌*◌, ◌/◌, ◌%◌, ◌^◌, ◌<◌, ◌≤◌, true, List, [], ◌++◌, length, Option, Some, None, unsigned_abs, if◌then◌else◌, refl, sym, ap, ap₂, ◌∙◌, subst, arith, decimal, Number as Numbers, max_size, padded, size_text, sign_text, all_places, decimal_text, IsUnsignedDecimal, plain, point, length-padded, digits_padded, all_none, div_small, decimal_few, decimals_read_back, Kind, Text, Rectangle, Mark, Name, OpenParenthesis, CloseParenthesis, Semicolon, Percent, one_cell, two_cells, of_content, IsToken, SomeDigits, digits_alone, reference_of_complete, rectangle_of_complete, text_reads_back, Corners, Symbol, numeral, text_literal, reference, corners, open_parenthesis, close_parenthesis, separator, infix_mark, percent_mark, what_if_name, name, bad_token, in_capitals, in_sheet, cell_named, symbol_text, number_symbol, cell_symbol, reference_symbol, corners_symbol, rectangle_symbol, symbol_of, IsFunctionName, IsWritable}
+use Rattle.wi_parser.proofs.Words.{◌≡◌, ◌≢◌, ℕ, zero, suc, ◌*◌, ◌/◌, ◌%◌, ◌^◌, ◌<◌, ◌≤◌, true, List, [], ◌++◌, length, Option, Some, None, unsigned_abs, if◌then◌else◌, refl, sym, ap, ap₂, ◌∙◌, subst, arith, decimal, Number as Numbers, max_size, padded, size_text, sign_text, places, decimal_text, IsUnsignedDecimal, plain, point, length-padded, digits_padded, all_none, div_small, decimal_few, decimals_read_back, Kind, Text, Rectangle, Mark, Name, OpenParenthesis, CloseParenthesis, Semicolon, Percent, one_cell, two_cells, of_content, IsToken, SomeDigits, digits_alone, reference_of_complete, rectangle_of_complete, text_reads_back, Corners, Symbol, numeral, text_literal, reference, corners, open_parenthesis, close_parenthesis, separator, infix_mark, percent_mark, what_if_name, name, bad_token, in_capitals, in_sheet, cell_named, symbol_text, number_symbol, cell_symbol, reference_symbol, corners_symbol, rectangle_symbol, symbol_of, IsFunctionName, IsWritable}
 use Rattle.wi_fraction.proofs.ReadsBack.{numeral as decimal_digits}
 use Rattle.wi_lexer.specs.declared.token.Kind.TheVariants.{Number, Reference}
 use Rattle.wi_parser.specs.declared.expr.Reference as references
@@ -44,8 +44,8 @@ pub number_is : (x : Numbers) → IsUnsignedDecimal x → SomeDigits (decimal_te
 unfolding decimal_text
 number_is x h =
     let divides = decimal_few h.decimal.0 x.den x.is_number.above_zero x.is_number.den_fits h.decimal.1 in
-    let size = size_is (unsigned_abs x.num) x.den (all_places x.den) (λ none. all_none x.den none divides) x.is_number.num_fits in
-    subst (λ b. SomeDigits (sign_text b ++ size_text (all_places x.den) (unsigned_abs x.num) x.den)) (sym h.unsigned) size
+    let size = size_is (unsigned_abs x.num) x.den (places 126 x.den) (λ none. all_none x.den none divides) x.is_number.num_fits in
+    subst (λ b. SomeDigits (sign_text b ++ size_text (places 126 x.den) (unsigned_abs x.num) x.den)) (sym h.unsigned) size
 
 number_written : (x : Numbers) → IsUnsignedDecimal x → IsWritten (numeral x)
 number_written x h = record { token = digits_alone (decimal_text x) (number_is x h); means = ap number_symbol (decimals_read_back x h.decimal h.unsigned) }

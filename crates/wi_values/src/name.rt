@@ -3,6 +3,7 @@
 ghost use Rattle.std.specs.Prelude.{◌≡◌, option_map};
 ghost use Rattle.std.specs.List.{list_all};
 ghost use Rattle.wi_values.specs.Name as spec;
+ghost use Rattle.wi_values.specs.Inner.Names as bytes;
 
 /// The greatest length of a name in bytes.
 const MAX_NAME: usize = 32;
@@ -35,13 +36,13 @@ impl<'a> Name<'a> {
 }
 
 fn is_name_byte(b: u8) -> bool
-    ensures { result ≡ spec.is_name_byte b }
+    ensures { result ≡ bytes.is_name_byte b }
 {
     b.is_ascii_alphabetic() || b.is_ascii_digit() || b == b'_'
 }
 
 fn are_name_bytes(text: &[u8]) -> bool
-    ensures { result ≡ list_all spec.is_name_byte text.now }
+    ensures { result ≡ list_all bytes.is_name_byte text.now }
 {
     text.iter().all(|b| is_name_byte(*b))
 }

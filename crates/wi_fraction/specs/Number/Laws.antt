@@ -1,11 +1,12 @@
 -- What makes two parts a number, and that a number is known by them.
-use Rattle.std.specs.Prelude.{◌≡◌, ℕ, zero, suc, ℤ, pos, negsuc, neg_ℤ, unsigned_abs, Bool, true, false, Some, None, refl}
+use Rattle.std.specs.Prelude.{◌≡◌, ℕ, zero, suc, ℤ, pos, negsuc, neg_ℤ, unsigned_abs, true, false, ◌⊎◌, Option, Some, None, refl}
 use Rattle.std.specs.Coded.{Coded, coded×, coded_ℤ, coded_ℕ}
-use Rattle.std.proofs.Common.{ap, sym, subst, arith}
+use Rattle.std.proofs.Common.{ap, sym, subst, arith, inl, inr, ⊎_elim}
+use Rattle.std.proofs.lemmas.Bool.{both_ways, cases_Bool}
 use Rattle.std.proofs.lemmas.Bool.Decides.{nat_tests}
 use mathlib.Core.Path.{path_j}
 use Rattle.std.proofs.Props.{props}
-use Rattle.wi_fraction.specs.Number.{IsNumber, IsNumber-from_test, Number, is_number_test, number_at, number_by}
+use Rattle.wi_fraction.specs.Number.{IsNumber, IsNumber-from_test, Number, is_number_test, number_at}
 
 -- two parts make a number in one way
 pub IsNumber-prop : (n : ℤ) (d : ℕ) → IsProp (IsNumber n d)
@@ -30,38 +31,34 @@ test_from_IsNumber : (n : ℤ) (d : ℕ) → IsNumber n d → is_number_test n d
 unfolding is_number_test
 test_from_IsNumber n d h = grind (arith, nat_tests)
 
-number_by-some : (n : ℤ) (d : ℕ) (b : Bool) (h : b ≡ true → IsNumber n d) → b ≡ true → (x : Number) → x.num ≡ n → x.den ≡ d → number_by n d b h ≡ Some x
-unfolding number_by
-number_by-some n d true h t x e f = ap Some (same_number _ x (sym e) (sym f))
-number_by-some n d false h t x e f = cc
-
-number_by-none : (n : ℤ) (d : ℕ) (b : Bool) (h : b ≡ true → IsNumber n d) → ¬ (b ≡ true) → number_by n d b h ≡ None
-unfolding number_by
-number_by-none n d true h t = absurd (t refl)
-number_by-none n d false h t = refl
+-- either case gives it
+by_cases : {A B C : Type 0} (f : A → C) (g : B → C) (c : A ⊎ B) (z : C) → ((a : A) → f a ≡ z) → ((b : B) → g b ≡ z) → ⊎_elim f g c ≡ z
+by_cases f g (inl a) z p q = p a
+by_cases f g (inr b) z p q = q b
 
 pub number_at-some : (n : ℤ) (d : ℕ) (x : Number) → x.num ≡ n → x.den ≡ d → number_at n d ≡ Some x
 unfolding number_at
 number_at-some n d x e f =
     let p : IsNumber n d = subst (λ m. IsNumber m d) e (subst (λ k. IsNumber x.num k) f x.is_number) in
-    number_by-some n d _ _ (test_from_IsNumber n d p) x e f
+    by_cases _ _ (cases_Bool (is_number_test n d)) (Some x) (λ holds. ap Some (same_number _ x (sym e) (sym f)))
+    (λ fails. absurd (both_ways (is_number_test n d) fails (test_from_IsNumber n d p)))
 
 pub number_at-none : (n : ℤ) (d : ℕ) → ¬ IsNumber n d → number_at n d ≡ None
 unfolding number_at
-number_at-none n d h = number_by-none n d _ _ (λ t. h (IsNumber-from_test n d t))
+number_at-none n d h = by_cases _ _ (cases_Bool (is_number_test n d)) None (λ holds. absurd (h (IsNumber-from_test n d holds))) (λ fails. refl)
 
 pub abs-neg : (z : ℤ) → unsigned_abs (neg_ℤ z) ≡ unsigned_abs z
 abs-neg (pos zero) = refl
 abs-neg (pos (suc n)) = refl
 abs-neg (negsuc n) = refl
 
-number_by-is : (n : ℤ) (d : ℕ) (b : Bool) (h : b ≡ true → IsNumber n d) (z : Number) → number_by n d b h ≡ Some z → (z.num ≡ n) × (z.den ≡ d)
-unfolding number_by
-number_by-is n d true h z e =
-    let same : record { num = n; den = d; is_number = h refl } ≡ z = cc in
+found_is : (n : ℤ) (d : ℕ) (c : (is_number_test n d ≡ true) ⊎ (is_number_test n d ≡ false)) (z : Number)
+    → ⊎_elim (λ holds. Some (record { num = n; den = d; is_number = IsNumber-from_test n d holds })) (λ fails. None) c ≡ Some z → (z.num ≡ n) × (z.den ≡ d)
+found_is n d (inl holds) z e =
+    let same : record { num = n; den = d; is_number = IsNumber-from_test n d holds } ≡ z = cc in
     (sym (ap (λ (x : Number). x.num) same), sym (ap (λ (x : Number). x.den) same))
-number_by-is n d false h z e = cc
+found_is n d (inr fails) z e = let none : ◌≡◌ {A = Option Number} None (Some z) = e in cc
 
 pub number_at-is : (n : ℤ) (d : ℕ) (z : Number) → number_at n d ≡ Some z → (z.num ≡ n) × (z.den ≡ d)
 unfolding number_at
-number_at-is n d z e = number_by-is n d _ _ z e
+number_at-is n d z e = found_is n d _ z e

@@ -2,7 +2,7 @@
 use Rattle.std.specs.Prelude.{ℕ, Bool, true, false, not, ◌||◌, ◌==◌, List, [], ◌∷◌}
 use Rattle.std.specs.Char.{is_ascii_digit}
 use Rattle.std.specs.Str.{byte}
-use Rattle.wi_fraction.specs.Written.{is_exponent_letter}
+use Rattle.wi_fraction.specs.Inner.Signs.{is_exponent_letter}
 use Rattle.wi_lexer.specs.declared.token.Kind.{Kind}
 use Rattle.wi_lexer.specs.declared.token.Kind.TheVariants.{Number, Name, Text, Mark}
 use Rattle.wi_lexer.specs.declared.token.Mark.TheVariants.{Less, Greater}

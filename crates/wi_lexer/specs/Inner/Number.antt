@@ -1,7 +1,7 @@
 -- Where a number ends, as a reader goes.
 use Rattle.std.specs.Prelude.{ℕ, ◌+◌, Bool, ◌&&◌, ◌||◌, ◌==◌, nat_lt, if◌then◌else◌, List, drop, slice_index}
 use Rattle.std.specs.Str.{byte}
-use Rattle.wi_fraction.specs.Written.{is_exponent_letter}
+use Rattle.wi_fraction.specs.Inner.Signs.{is_exponent_letter}
 use Rattle.wi_lexer.specs.Inner.Runs.{digits_len, one_longer}
 
 -- the length of a point and the digits after it, or 0 where they don't stand at the front

@@ -1,8 +1,13 @@
 -- Where runs of bytes end, as a reader goes.
-use Rattle.std.specs.Prelude.{ℕ, ◌+◌, Bool, true, false, ◌==◌, nat_lt, if◌then◌else◌, List}
-use Rattle.std.specs.List.{prefix_len}
+use Rattle.std.specs.Prelude.{◌≡◌, ℕ, ◌+◌, ◌<◌, Bool, true, false, ◌==◌, nat_lt, if◌then◌else◌, List, length}
+use Rattle.std.specs.List.{list_all, prefix_len}
 use Rattle.std.specs.Char.{is_ascii_digit, is_ascii_alphabetic}
 use Rattle.std.specs.Str.{byte}
+
+-- some bytes, each of the class
+pub record IsRunOf (class : ℕ → Bool) (text : List ℕ) : Type 0 where
+  pub some : 0 < length text
+  pub all : list_all class text ≡ true
 
 -- any byte but `:`
 abbrev pub is_before_colon : ℕ → Bool

@@ -1,4 +1,4 @@
-use Rattle.wi_fraction.proofs.Vocabulary.{◌∙◌, sym, ap, subst, arith, rules, string_bytes, OnOk, starts_with_trans, ◌^◌, decimal, IfOk-from_err, mod-lt, append-nil, sign_text, size_text, padded, all_places}
+use Rattle.wi_fraction.proofs.Vocabulary.{◌∙◌, sym, ap, subst, arith, rules, string_bytes, OnOk, starts_with_trans, ◌^◌, decimal, IfOk-from_err, mod-lt, append-nil, sign_text, size_text, padded, places}
 use Rattle.std.proofs.Common.{◌≡◌, ◌++◌, ◌∷◌, [], ◌*◌, ◌/◌, ◌%◌, Some}
 use Rattle.wi_fraction.proofs.Decimals.{starts_joined, exact_none, exact_whole, exact_point, exact_written}
 use Rattle.wi_fraction.proofs.decimal.push_exact.Goals as goal
@@ -8,7 +8,7 @@ returns-in-None-clause-ok c = rw (exact_none c.args.n c.args.d c.in-None.ensures
 
 pub returns-in-Some-eq0-clause-ok : goal.returns-in-Some-eq0-clause-ok
 returns-in-Some-eq0-clause-ok c =
-    let none : Some 0 ≡ all_places c.args.d = first_of (grind (arith, c.in-Some-eq0.ensures, c.in-Some-eq0.field-0-is), search (rules, c.in-Some-eq0.ensures)) in
+    let none : Some 0 ≡ places 126 c.args.d = first_of (grind (arith, c.in-Some-eq0.ensures, c.in-Some-eq0.field-0-is), search (rules, c.in-Some-eq0.ensures)) in
     rw (exact_whole c.args.n c.args.d none, sym (append-nil (decimal c.args.n)), ← c.format-in-Some-eq0.ensures.text) c.push_joined-in-Some-eq0.ensures.ok
 
 pub returns-in_ok-push_joined-in-Some-clause-ok : goal.returns-in_ok-push_joined-in-Some-clause-ok
@@ -20,8 +20,8 @@ returns-in_ok-push_joined-in-Some-clause-ok c =
     let mid = string_bytes c.push_joined-in-Some.new.text in
     let digits = padded k (n % d * 10 ^ k / d) in
     let front : mid ≡ old ++ (sign_text c.args.negative ++ (decimal (n / d) ++ (46 ∷ []))) = rw (c.format-in-Some.ensures.text, c.divide.ensures) at c.in_ok-push_joined-in-Some.ensures.ok in
-    let text : size_text (all_places d) n d ≡ decimal (n / d) ++ 46 ∷ digits = exact_point n d k c.in-Some.ensures (omega (arith, c.in-Some.k-test)) c.requires.above_zero in
-    let whole : mid ++ digits ≡ old ++ (sign_text c.args.negative ++ size_text (all_places d) n d) = exact_written old (sign_text c.args.negative) (decimal (n / d)) digits mid front ∙ ap (λ x. old ++ (sign_text c.args.negative ++ x)) (sym text) in
+    let text : size_text (places 126 d) n d ≡ decimal (n / d) ++ 46 ∷ digits = exact_point n d k c.in-Some.ensures (omega (arith, c.in-Some.k-test)) c.requires.above_zero in
+    let whole : mid ++ digits ≡ old ++ (sign_text c.args.negative ++ size_text (places 126 d) n d) = exact_written old (sign_text c.args.negative) (decimal (n / d)) digits mid front ∙ ap (λ x. old ++ (sign_text c.args.negative ++ x)) (sym text) in
     subst (λ x. OnOk c.push_digits.result (string_bytes c.push_digits.new.text ≡ x)) whole (rw c.remainder.ensures at c.push_digits.ensures.ok)
 
 pub push_joined-requires : goal.push_joined-requires
