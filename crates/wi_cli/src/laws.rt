@@ -29,7 +29,8 @@ pub fn blocks_are_the_same()
 /// Lines have the commands that they are read as.
 #[tactic(auto, using(crate::proofs::Ties::LinesRead::has_commands))]
 pub fn lines_have_commands()
-    ensures { (ended : Bool) (lines : List Bytes) → AreCommands ended lines (commands_of ended lines) }
+    ensures { (ended : Bool) (lines : List Bytes)
+        → AreCommands ended lines (commands_of ended lines) }
 {}
 
 /// Lines have no other commands.

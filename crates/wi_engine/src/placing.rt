@@ -32,12 +32,12 @@ pub struct PlacedPlan {
 
 /// The places of the cells whose values stand in a list, each counted from 0.
 #[derive(Drop)]
-struct Places {
+struct Numbering {
     by_cell: BTreeMap<Address, usize>,
     count: usize,
 }
 
-impl Places {
+impl Numbering {
     /// Takes the next place for a cell. No memory has room for more places than can be counted.
     fn add(&mut self, at: Address) -> Result<(), AllocError>
         ensures { OnOk result (IsNumberedMore self.old self.new at) }
@@ -64,7 +64,7 @@ pub(crate) fn placed_plan(
     ensures { IfOk result (λ o. IfSome o (λ p.
         IsPlacedPlan store.now.sheet inputs.now root cells.now p)) }
 {
-    let mut places = Places {
+    let mut places = Numbering {
         by_cell: BTreeMap::new(alloc),
         count: 0,
     };
@@ -92,7 +92,7 @@ pub(crate) fn placed_plan(
 fn placed_one(
     alloc: Global,
     store: &Store,
-    places: &Places,
+    places: &Numbering,
     planned: Planned,
 ) -> Result<Option<PlacedCell>, AllocError>
     ensures { IfOk result (λ o. IfSome o (λ c. (before : List ℕ)
@@ -117,7 +117,7 @@ fn placed_one(
 fn placed_formula(
     alloc: Global,
     store: &Store,
-    places: &Places,
+    places: &Numbering,
     at: Address,
 ) -> Result<Option<Placed>, AllocError>
     ensures { IfOk result (λ o. IfSome o (λ p. (before : List ℕ)
@@ -134,7 +134,7 @@ fn placed_formula(
 fn placed(
     alloc: Global,
     store: &Store,
-    places: &Places,
+    places: &Numbering,
     expr: &Expr,
 ) -> Result<Option<Placed>, AllocError>
     ensures { IfOk result (λ o. IfSome o
@@ -166,7 +166,7 @@ fn placed(
 fn signed(
     alloc: Global,
     store: &Store,
-    places: &Places,
+    places: &Numbering,
     sign: Sign,
     inner: &Expr,
 ) -> Result<Option<Placed>, AllocError>
@@ -184,7 +184,7 @@ fn signed(
 fn percent(
     alloc: Global,
     store: &Store,
-    places: &Places,
+    places: &Numbering,
     inner: &Expr,
 ) -> Result<Option<Placed>, AllocError>
     ensures { IfOk result (λ o. IfSome o (IsPlacedAs store.now.sheet places.now
@@ -201,7 +201,7 @@ fn percent(
 fn binary(
     alloc: Global,
     store: &Store,
-    places: &Places,
+    places: &Numbering,
     operator: Operator,
     left: &Expr,
     right: &Expr,
@@ -224,7 +224,7 @@ fn binary(
 fn called(
     alloc: Global,
     store: &Store,
-    places: &Places,
+    places: &Numbering,
     name: &Text,
     parameters: &[Expr],
 ) -> Result<Option<Placed>, AllocError>
@@ -242,7 +242,7 @@ fn called(
 fn all_placed(
     alloc: Global,
     store: &Store,
-    places: &Places,
+    places: &Numbering,
     parameters: &[Expr],
 ) -> Result<Option<Vec<Placed>>, AllocError>
     ensures { IfOk result (λ o. IfSome o (λ ps.
@@ -262,7 +262,7 @@ fn all_placed(
 fn placed_cell(
     alloc: Global,
     store: &Store,
-    places: &Places,
+    places: &Numbering,
     at: Address,
 ) -> Result<Option<Placed>, AllocError>
     ensures { IfOk result (λ o. IfSome o (λ p.

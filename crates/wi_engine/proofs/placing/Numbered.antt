@@ -1,7 +1,7 @@
 -- The places of cells, one after another.
 use Rattle.wi_engine.proofs.Words.{◌≡◌, ◌==◌, ◌||◌, ℕ, zero, suc, ◌+◌, ◌<◌, Bool, true, false, cond, List, [], ◌∷◌, ◌++◌, take, get_or, length, slice_get, Option, Some, None, IfSome, IfNone, refl, ap, sym, ◌∙◌, subst, or-false, list_any-append, nat_cmp, IsEmpty, get, is_at, at_same, is_at-eq, is_one_of}
 use Rattle.std.proofs.lemmas.List.{length_push, take_more}
-use Rattle.wi_engine.specs.declared.placing.Places.{Places}
+use Rattle.wi_engine.specs.declared.placing.Numbering.{Numbering}
 use Rattle.wi_engine.specs.Inner.Placing.{AreNumbered}
 
 -- ---- elements of a list by their places
@@ -31,7 +31,7 @@ taken_more xs i x l e = take_more xs i x l ∙ ap (λ (y : _). take i xs ++ y �
 
 -- ---- places
 
-pub none_numbered : (ps : Places) → ps.count ≡ 0 → IsEmpty ps.by_cell → AreNumbered [] ps
+pub none_numbered : (ps : Numbering) → ps.count ≡ 0 → IsEmpty ps.by_cell → AreNumbered [] ps
 none_numbered ps n e = record {
   count = n;
   there = λ c. subst (λ (o : Option ℕ). IfSome o (λ i. slice_get [] i ≡ Some c)) (sym (no_place c)) tt;
@@ -41,7 +41,7 @@ none_numbered ps n e = record {
     no_place : (c : ℕ) → get nat_cmp ps.by_cell c ≡ None
     no_place c = rw e refl
 
-pub one_more_numbered : (old new : Places) (c : ℕ) → new.count ≡ old.count + 1 → ((q : ℕ) → get nat_cmp new.by_cell q ≡ cond (is_at (nat_cmp c) q) (Some old.count) (get nat_cmp old.by_cell q)) →
+pub one_more_numbered : (old new : Numbering) (c : ℕ) → new.count ≡ old.count + 1 → ((q : ℕ) → get nat_cmp new.by_cell q ≡ cond (is_at (nat_cmp c) q) (Some old.count) (get nat_cmp old.by_cell q)) →
     (cells : List ℕ) → AreNumbered cells old → AreNumbered (cells ++ c ∷ []) new
 one_more_numbered old new c count up cells h = record {
   count = count ∙ ap (λ (n : ℕ). n + 1) h.count ∙ sym (length_push cells c);

@@ -18,7 +18,7 @@ use Rattle.wi_functions.specs.declared.placed.Placed.{Placed}
 use Rattle.wi_functions.specs.declared.placed.Placed.TheVariants as placed
 use Rattle.wi_functions.proofs.Parameters.{more_values, none_left}
 use Rattle.wi_functions.proofs.PlacedValues.{constant_value, place_value, signed_value, percent_value, binary_value}
-use Rattle.wi_engine.specs.declared.placing.Places.{Places}
+use Rattle.wi_engine.specs.declared.placing.Numbering.{Numbering}
 use Rattle.wi_engine.specs.Inner.Placing.{AreNumbered, ArePlacedAs, Fits, IsPlacedAs, plain_reference}
 use Rattle.wi_engine.proofs.placing.Numbered.{same_some}
 
@@ -28,7 +28,7 @@ if_placed P Q (Ok (Some p)) f h = f p h
 if_placed P Q (Ok None) f h = tt
 if_placed P Q (Err e) f h = tt
 
-module _ (s : Sheet) (ps : Places) where
+module _ (s : Sheet) (ps : Numbering) where
   -- ---- by the tree of each kind
 
   -- a tree with another's meaning

@@ -13,7 +13,7 @@ use Rattle.wi_functions.specs.Inner.Calls.{values_of}
 use Rattle.wi_functions.specs.Placed.{placed_value, placed_values, value_at_place}
 use Rattle.wi_functions.specs.declared.placed.Placed.{Placed}
 use Rattle.wi_engine.specs.Inner.Attempt.{known_in}
-use Rattle.wi_engine.specs.declared.placing.Places.{Places}
+use Rattle.wi_engine.specs.declared.placing.Numbering.{Numbering}
 use Rattle.wi_engine.specs.declared.placing.PlacedCell.{PlacedCell}
 use Rattle.wi_engine.specs.declared.placing.PlacedPlan.{PlacedPlan}
 use Rattle.wi_engine.specs.declared.plan.Planned.{Planned}
@@ -57,21 +57,21 @@ pub record IsPlacedPlan (s : Sheet) (inputs : List ℕ) (root : ℕ) (ps : List 
 -- ---- how it is placed
 
 -- the places of just these cells, in their order
-pub record AreNumbered (cells : List ℕ) (ps : Places) : Type 0 where
+pub record AreNumbered (cells : List ℕ) (ps : Numbering) : Type 0 where
   pub count : ps.count ≡ length cells
   pub there : (c : ℕ) → IfSome (get nat_cmp ps.by_cell c) (λ i. slice_get cells i ≡ Some c)
   pub none : (c : ℕ) → IfNone (get nat_cmp ps.by_cell c) (is_one_of cells c ≡ false)
 
 -- one more has a place
-abbrev pub IsNumberedMore : Places → Places → ℕ → Type 0
+abbrev pub IsNumberedMore : Numbering → Numbering → ℕ → Type 0
 IsNumberedMore old new c = (cells : List ℕ) → AreNumbered cells old → AreNumbered (cells ++ c ∷ []) new
 
 -- a tree's placed form by these places, whichever cells have them
-abbrev pub IsPlacedAs : Sheet → Places → Tree → Placed → Type 0
+abbrev pub IsPlacedAs : Sheet → Numbering → Tree → Placed → Type 0
 IsPlacedAs s ps t p = (cells : List ℕ) → AreNumbered cells ps → Means s cells t p
 
 -- and those of parameters
-abbrev pub ArePlacedAs : Sheet → Places → Trees → List Placed → Type 0
+abbrev pub ArePlacedAs : Sheet → Numbering → Trees → List Placed → Type 0
 ArePlacedAs s ps ts qs = (cells : List ℕ) → AreNumbered cells ps → Mean s cells ts qs
 
 -- a reference to a cell

@@ -1,6 +1,6 @@
 use Rattle.wi_engine.proofs.Words.{◌≡◌, ◌+◌, rules}
 use Rattle.wi_engine.proofs.placing.Numbered.{one_more_numbered}
-use Rattle.wi_engine.proofs.placing.Places.add.Goals as goal
+use Rattle.wi_engine.proofs.placing.Numbering.add.Goals as goal
 
 pub returns : goal.returns
 returns c =
