@@ -4,7 +4,7 @@ use Rattle.wi_functions.proofs.Words.{◌≡◌, ℕ, zero, suc, ℤ, Bool, true
 use Rattle.std.proofs.lemmas.List.{length-map}
 use Rattle.wi_values.specs.declared.value.Value.TheVariants.{Logical}
 use Rattle.wi_standard_functions.specs.Convert.{to_logical}
-use Rattle.wi_standard_functions.specs.Logical.{if_error_value, if_na_value}
+use Rattle.wi_standard_functions.specs.Inner.Named.{if_error_value, if_na_value}
 use Rattle.wi_value_functions.specs.Applied.{arguments_of}
 use Rattle.wi_value_functions.specs.declared.function.Function.TheVariants.{Values}
 use Rattle.wi_value_functions.specs.declared.function.LazyFunction.{LazyFunction}

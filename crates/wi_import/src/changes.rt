@@ -3,9 +3,9 @@
 ghost use Rattle.std.specs.Prelude.{◌≡◌, ◌++◌, false, map, IfOk, OnOk};
 ghost use Rattle.std.specs.List.{list_any};
 ghost use Rattle.wi_values.specs.Address.{row_of, column_of};
-ghost use Rattle.wi_import.specs.Fields.{fields_from};
+ghost use Rattle.wi_import.specs.Fields.{fields_of, fields_from};
 ghost use Rattle.wi_import.specs.Inner.Reading.{is_bad, is_too_long, content_of, change_of};
-ghost use Rattle.wi_import.specs.Inner.Records.{bytes_of, all_bytes, fields_of, is_faulty};
+ghost use Rattle.wi_import.specs.Inner.Records.{bytes_of, all_bytes, is_faulty};
 
 use std::alloc::{AllocError, Global};
 use std::str;

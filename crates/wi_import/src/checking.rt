@@ -3,9 +3,9 @@
 ghost use Rattle.std.specs.Prelude.{◌≡◌, ◌<◌};
 ghost use Rattle.std.specs.List.{list_any};
 ghost use Rattle.wi_values.specs.Address.{columns, row_of, column_of};
-ghost use Rattle.wi_import.specs.Fields.{fields_from};
+ghost use Rattle.wi_import.specs.Fields.{fields_of, fields_from};
 ghost use Rattle.wi_import.specs.Inner.Reading.{is_bad, is_too_long, is_outside, fault_among};
-ghost use Rattle.wi_import.specs.Inner.Records.{bytes_of, all_bytes, fields_of};
+ghost use Rattle.wi_import.specs.Inner.Records.{bytes_of, all_bytes};
 
 use crate::fault::ImportFault;
 use std::str;
