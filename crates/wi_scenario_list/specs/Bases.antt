@@ -1,6 +1,6 @@
 -- Which scenario is based on which.
 use Rattle.std.specs.Prelude.{◌≡◌, ◌≤◌, Bool, false, not, List, [], ◌∷◌, length, Option, Some, None}
-use Rattle.wi_fraction.specs.Text.{Bytes}
+use Rattle.wi_values.specs.Name.{Bytes}
 use Rattle.std.specs.List.{list_any}
 use Rattle.std.specs.Str.{bytes_eq}
 use Rattle.wi_scenario_list.specs.Scenarios.{Scenario, is_named, scenario_of, has_scenario, max_scenarios, chain}
