@@ -19,7 +19,7 @@ cell_named cause o = []
 abbrev pub late : List Cause
 late = OutOfSheet ∷ NumberRange ∷ TooDeep ∷ Syntax ∷ LeavesSheet ∷ Stale ∷ Full ∷ EditLimit ∷ []
 
--- E01 may stand in place of any answer but a cause that is found before. `drop`, and `as` of a session that is there,
+-- E01 may stand in place of any answer but a cause found before anything grows. `drop`, and `as` of a session that is there,
 -- grow nothing; data lines for a cell of the sheet always may.
 abbrev pub MayLackMemory : State → Command → Type 0
 MayLackMemory s (Drop name) = ⊥

@@ -33,7 +33,7 @@ module _ (line : Bytes) where
       IsGood × (is_passed_over line_text ≡ false) × ((c : Command) → IsWritten line_text (form c) → ⊥)
   IsCommand taken (Some c) = IsGood × IsWritten line_text (form c) × (data_of c ≡ taken)
 
--- Data lines are taken whatever is answered. A line that lacks some counts only where the script has ended.
+-- Data lines are taken whatever is answered. A `csv` that lacks some is a command only where the script has ended.
 pub data AreCommands (ended : Bool) : List Bytes → List Command → Type 0 where
   none : AreCommands ended [] []
   a_line : (line : Bytes) (taken lines : List Bytes) (o : Option Command) (cs : List Command)

@@ -13,7 +13,7 @@ pub record Region : Type 0 where
   pub width : ℕ
   pub values : List Value
 
--- and what it refers to, also in parentheses
+-- a parameter's value, and the rectangle that it refers to, also in parentheses
 pub record Argument : Type 0 where
   pub value : Value
   pub region : Option Region

@@ -42,7 +42,7 @@ is_not_available v = false
 
 -- ---- counts
 
--- COUNT and COUNTA: how many items pass; no error passes through
+-- COUNT and COUNTA: how many items meet the test; an error is never the result
 abbrev pub counted : (Value → Bool) → List Argument → Value
 counted test args = whole_value (count_by (λ item. test (value_of_item item)) (sequence_of args))
 

@@ -63,7 +63,7 @@ module _ (s : State) where
   abbrev pub stale_cell : Command → Option ℕ
   stale_cell c = first_stale s.log s.current (current_session s).seen (named c)
 
-  -- The cause holds for the command; none holds where no line says so.
+  -- The cause holds for the command by the first line that fits; none holds where no line does.
   abbrev pub Holds : Cause → Command → Type 0
   -- A line or a data line is too long, or a line isn't UTF-8.
   Holds BadLine Unreadable = Unit {0}

@@ -15,7 +15,7 @@ Corners = Cell × Cell
 abbrev pub is_outside : Cell → Bool
 is_outside c = nat_le rows c.row || nat_le columns c.column
 
--- where the sheet has it
+-- its place, where the sheet has it
 abbrev pub address : Cell → ℕ
 address c = place c.row c.column
 
