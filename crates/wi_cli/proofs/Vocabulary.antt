@@ -24,7 +24,7 @@ pub use Rattle.std.specs.Result.{result_err}
 pub use Rattle.std.specs.Str.{IsCharBoundary, IsUtf8, all_ascii_digits, byte, is_utf8}
 pub use Rattle.std.specs.Str.Parse.{digits_value, digits_value_after}
 pub use Rattle.std.specs.Str.Pattern.{CutsPrefixes, FindsCharPrefix, IsTrimStartMatches}
-pub use Rattle.wi_cli.specs.Events.{AreEvents, Runs}
+pub use Rattle.wi_cli.specs.Events.{AreEvents}
 pub use Rattle.wi_cli.specs.InTurn.{RunInTurn}
 pub use Rattle.wi_cli.specs.Inner.Ahead.{Takes, budget}
 pub use Rattle.wi_cli.specs.Inner.Asked.{IsAsked}
@@ -41,8 +41,7 @@ pub use Rattle.wi_cli.specs.Inner.Reading.{Broke, CanRead, HasStopped, ReadsOn, 
 unfoldable pub use Rattle.wi_cli.specs.Inner.Reading.{line_front}
 pub use Rattle.wi_cli.specs.Inner.Reply.{reply, refused_cell}
 unfoldable pub use Rattle.wi_cli.specs.Inner.Reply.{refused}
-pub use Rattle.wi_cli.specs.Inner.Run.{WritesReplies}
-pub use Rattle.wi_cli.specs.Inner.RunOutcome.{RunOutcome, WritesFrontOfReplies}
+pub use Rattle.wi_cli.specs.Inner.RunOutcome.{RunOutcome}
 unfoldable pub use Rattle.wi_cli.specs.Inner.RunOutcome.{limited}
 pub use Rattle.wi_cli.specs.Inner.Script.{block_command, command_with, commands, is_comment, text_command, whole_lines}
 unfoldable pub use Rattle.wi_cli.specs.Inner.Script.{all_commands, complete_commands, line_command}
