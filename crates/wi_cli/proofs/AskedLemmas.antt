@@ -1,11 +1,11 @@
 -- What a line asks for, by its name and its words.
-use Rattle.wi_cli.proofs.Vocabulary.{◌≡◌, ℕ, suc, ◌+◌, ◌<◌, ◌≤◌, Bool, true, false, ◌||◌, ◌&&◌, not, cond, eqb, List, [], ◌∷◌, length, take, refl, sym, ap, ◌∙◌, subst, ⊎_elim, Option, None, Some, Result, Err, list_all, position_or_len, before_first, after_first, is_utf8, IsUtf8, or_cases, eqb-true, le-ltb, lt-ltb, false_from_ne_true, arith, false≢true, is_utf8-from_IsUtf8, IsUtf8-from_is_utf8, codes, Refusal, is_space, skip_spaces, first_word, after_word, without_cr, is_all_spaces, is_comment, CsvLine, csv_named, csv_by_name, csv_text, csv_line, named_command, spelled_command, text_command, line_command, IsAsked, edit_forms, named_in, Reading, IsRead, IsReadAs, IsReading, Command, Unknown, Unreadable}
+use Rattle.wi_cli.proofs.Vocabulary.{◌≡◌, ℕ, suc, ◌+◌, ◌<◌, ◌≤◌, Bool, true, false, ◌||◌, ◌&&◌, not, cond, eqb, List, [], ◌∷◌, length, take, refl, sym, ap, ◌∙◌, subst, ⊎_elim, Option, None, Some, Result, Err, list_all, position_or_len, before_first, after_first, is_utf8, IsUtf8, or_cases, eqb-true, le-ltb, lt-ltb, false_from_ne_true, arith, false≢true, is_utf8-from_IsUtf8, IsUtf8-from_is_utf8, codes, Refusal, is_space, skip_spaces, first_word, after_word, without_cr, is_all_spaces, is_comment, CsvLine, csv_named, csv_by_name, csv_text, csv_line, named_command, spelled_command, text_command, line_command, IsAsked, edit_forms, named_in, IsRead, Command, Unknown, Unreadable}
 use Rattle.wi_scenarios.specs.declared.refusal.Refusal.TheVariants.{Memory, BadCommand, BadLine}
 use Rattle.wi_cli.specs.declared.line.Line.{Line}
 use Rattle.wi_cli.specs.declared.line.Line.TheVariants as read
 use Rattle.wi_cli.specs.declared.command.Command.{Command as ReadCommand}
 use Rattle.wi_cli.proofs.NamedLemmas.{not_name, edit_named}
-use Rattle.wi_cli.proofs.Ties.Readings.{unknown, unreadable, read_as}
+use Rattle.wi_cli.proofs.Ties.Readings.{unknown, unreadable}
 
 pub asked_same : (a b : Option CsvLine) (t u : Bool) (o p : Option Command) (r : Line) → a ≡ b → t ≡ u → o ≡ p → IsAsked b u p r → IsAsked a t o r
 asked_same a b t u o p r e f g h =
@@ -16,9 +16,11 @@ pub asked_refused : (a : Option CsvLine) (t : Bool) (o : Option Command) (c : Co
 asked_refused a t o c e none is r = (none, (c, is, r))
 
 pub no_command : IsRead Unknown (Err BadCommand)
+unfolding IsRead
 no_command = (unknown, λ (e : BadCommand ≡ Memory). cc)
 
 pub bad_line : IsRead Unreadable (Err BadLine)
+unfolding IsRead
 bad_line = (unreadable, λ (e : BadLine ≡ Memory). cc)
 
 -- ---- by its name
@@ -29,10 +31,9 @@ pub edit_asked : (force : Bool) (word operands name : List ℕ) (r : Line) → w
 edit_asked force word operands name r is h = subst (λ w. IsAsked (csv_named force w operands) true (Some (named_in (edit_forms force) w operands)) r) (sym is) h
 
 -- one that asks for no data lines
-pub plain_edit : (force : Bool) (word operands name : List ℕ) (w : Reading) (r : Result ReadCommand Refusal) → word ≡ name → csv_named force name operands ≡ None
-    → IsReadAs (named_in (edit_forms force) name operands) w → IsReading w r → IsAsked (csv_named force word operands) true (Some (named_in (edit_forms force) word operands)) (read.Command r)
-plain_edit force word operands name w r is none h k =
-    edit_asked force word operands name (read.Command r) is (none, (named_in (edit_forms force) name operands, refl, read_as (named_in (edit_forms force) name operands) w r h k))
+pub plain_edit : (force : Bool) (word operands name : List ℕ) (r : Result ReadCommand Refusal) → word ≡ name → csv_named force name operands ≡ None → IsRead (named_in (edit_forms force) name operands) r
+    → IsAsked (csv_named force word operands) true (Some (named_in (edit_forms force) word operands)) (read.Command r)
+plain_edit force word operands name r is none h = edit_asked force word operands name (read.Command r) is (none, (named_in (edit_forms force) name operands, refl, h))
 
 -- one behind `force`
 pub forced_asked : (text word operands : List ℕ) (r : Line) → word ≡ first_word text → operands ≡ after_word text
@@ -56,9 +57,9 @@ pub name_asked : (word operands name : List ℕ) (r : Line) → word ≡ name �
 name_asked word operands name r is h = subst (λ w. IsAsked (csv_by_name w operands) true (Some (named_command w operands)) r) (sym is) h
 
 -- one that asks for no data lines
-pub plain_asked : (word operands name : List ℕ) (w : Reading) (r : Result ReadCommand Refusal) → word ≡ name → csv_by_name name operands ≡ None → IsReadAs (named_command name operands) w → IsReading w r
+pub plain_asked : (word operands name : List ℕ) (r : Result ReadCommand Refusal) → word ≡ name → csv_by_name name operands ≡ None → IsRead (named_command name operands) r
     → IsAsked (csv_by_name word operands) true (Some (named_command word operands)) (read.Command r)
-plain_asked word operands name w r is none h k = name_asked word operands name (read.Command r) is (none, (named_command name operands, refl, read_as (named_command name operands) w r h k))
+plain_asked word operands name r is none h = name_asked word operands name (read.Command r) is (none, (named_command name operands, refl, h))
 
 -- one whose name is none of the others is an edit's
 pub others_asked : (word operands : List ℕ) (r : Line)

@@ -1,10 +1,10 @@
 -- A run of a script so far, and how it may end.
-use Rattle.wi_cli.proofs.Vocabulary.{◌≡◌, ℕ, ◌+◌, ◌-◌, ◌<◌, ◌≤◌, Bool, true, false, List, [], ◌∷◌, ◌++◌, length, take, refl, sym, ap, ◌∙◌, subst, Option, None, Some, Result, Ok, Err, IfErr, OnOk, append_assoc, append-nil, length-append, inl, inr, arith, concat, option_to_list, Appends, Keeps, Consumes, IsAtEnd, prepend_known, Appends-trans, Appends-nil, Appends-kept, take_at, filter_map-append, filter-append, concat-append, take-append-add, RunFault, Memory, Read, Write, ScriptLimit, State, Takes, raw_lines, Block, blocks, is_complete, block_command, commands, whole_lines, all_commands, complete_commands, AreWhole, AreBlocks, TookBlock, BrokeBlock, Turned, Stopped, WritesReplies, RunOutcome, WritesFrontOfReplies, limited, IsRun, Command}
+use Rattle.wi_cli.proofs.Vocabulary.{◌≡◌, ℕ, ◌+◌, ◌-◌, ◌<◌, ◌≤◌, Bool, true, false, List, [], ◌∷◌, ◌++◌, length, take, refl, sym, ap, ◌∙◌, subst, Option, None, Some, Result, Ok, Err, IfErr, OnOk, append_assoc, append-nil, length-append, inl, inr, arith, concat, option_to_list, Appends, Keeps, Consumes, IsAtEnd, prepend_known, Appends-trans, Appends-nil, Appends-kept, take_at, filter_map-append, filter-append, concat-append, take-append-add, RunFault, Memory, Read, Write, ScriptLimit, State, Takes, raw_lines, Block, blocks, is_complete, block_command, commands, whole_lines, all_commands, complete_commands, AreWhole, AreBlocks, TookBlock, BrokeBlock, Turned, Stopped, RunOutcome, limited, IsRun, Command, Writes}
 use Rattle.std.specs.List.{filter, filter_map}
 use Rattle.wi_cli.specs.Inner.Turn.{CutShort}
 use Rattle.wi_cli.proofs.Ties.Outcomes.{has_outcome}
 use Rattle.wi_cli.proofs.ReadingLemmas.{Takes-trans}
-use Rattle.wi_cli.proofs.RunLemmas.{WritesReplies-append, WritesReplies-none}
+use Rattle.wi_cli.proofs.RunLemmas.{Writes-append, may_fail, last_written}
 use Rattle.wi_cli.proofs.LineLemmas.{AreWhole-none, AreWhole-append, last_whole, some_line}
 use Rattle.wi_cli.proofs.BlockLemmas.{AreBlocks-none, AreBlocks-append}
 
@@ -18,7 +18,7 @@ pub record IsGoing (left : Option (List ℕ)) (buffer' : List ℕ) (left' : Opti
   pub counted : length lines ≡ count
   pub taken : Takes [] left buffer' left' (concat lines)
   pub written : Appends given given' out
-  pub writes : WritesReplies s (filter_map block_command done) out t
+  pub writes : Writes false s (filter_map block_command done) out t
 
 Takes-none : (left : Option (List ℕ)) → Takes [] left [] left []
 Takes-none None = tt
@@ -34,7 +34,7 @@ going_none left s given = record {
   counted = refl;
   taken = Takes-none left;
   written = Appends-nil given;
-  writes = WritesReplies-none s;
+  writes = (refl, refl);
 }
 
 -- the commands of blocks, and of one more
@@ -62,8 +62,8 @@ going_on left b p c q s m t w x y count count' h k =
       counted = omega (arith, length-append h.lines took.lines, h.counted, took.counted);
       taken = subst (Takes [] left c q) (all_bytes h.lines took.lines took.last none) (Takes-trans [] left b p c q _ _ h.taken took.taken);
       written = Appends-trans w x y _ _ h.written k.written;
-      writes = subst (λ z. WritesReplies s z (h.out ++ k.out) t) (sym (with_command h.done k.block.taken k.command k.block.is_command))
-          (WritesReplies-append s m t _ _ h.out k.out h.writes k.writes);
+      writes = subst (λ z. Writes false s z (h.out ++ k.out) t) (sym (with_command h.done k.block.taken k.command k.block.is_command))
+          (Writes-append false s m t _ _ h.out k.out h.writes k.writes);
     }
 
 -- ---- from what was taken out of the buffer to what was taken from the source
@@ -106,7 +106,7 @@ record IsOver (left q : Option (List ℕ)) (s t : State) (given given' : Option 
   at_end : IsAtEnd q
   written : Appends given given' out
   few : length (raw_lines input) ≤ 1000000
-  writes : WritesReplies s (all_commands input) out t
+  writes : Writes false s (all_commands input) out t
 
 -- the lines so far, those taken behind them, and what has no LF
 module _ (left : Option (List ℕ)) (b : List ℕ) (p : Option (List ℕ)) (s m : State) (w x : Option (List ℕ)) (count : ℕ) (h : IsGoing left b p s m w x count) where
@@ -144,7 +144,7 @@ module _ (left : Option (List ℕ)) (b : List ℕ) (p : Option (List ℕ)) (s m 
         at_end = at_end_of c q (took.at_end refl);
         written = Appends-trans w x y _ _ h.written k.written;
         few = subst (λ z. length z ≤ 1000000) (sym lines) (few_behind took.lines took.last count' took.counted took.few);
-        writes = subst (λ z. WritesReplies s z (h.out ++ k.out) t) (sym said) (WritesReplies-append s m t _ _ h.out k.out h.writes k.writes);
+        writes = subst (λ z. Writes false s z (h.out ++ k.out) t) (sym said) (Writes-append false s m t _ _ h.out k.out h.writes k.writes);
       }
 
 abbrev pub Ends : Result (Unit {0}) RunFault → Option (List ℕ) → Option (List ℕ) → State → State → Option (List ℕ) → Option (List ℕ) → Type 0
@@ -159,23 +159,7 @@ ends_flush left q s t w y z o e = (
   o.out,
   o.taken,
   Appends-kept w y z o.out o.written e,
-  inr (
-    o.at_end,
-    o.few,
-    record {
-      earlier = all_commands o.input;
-      last = None;
-      others = [];
-      first = sym (append-nil (all_commands o.input));
-      mid = t;
-      sent = o.out;
-      whole = o.writes;
-      front = [];
-      unwritten = [];
-      cut = WritesReplies-none t;
-      written = sym (append-nil o.out);
-    },
-  ),
+  inr (o.at_end, o.few, may_fail s (all_commands o.input) o.out t o.writes),
 )
 
 -- the flush at the end succeeded or failed
@@ -203,7 +187,7 @@ ends_read left b p c q s m t w x y count h k same kept =
       subst (λ z. Appends w z h.out) (sym kept) h.written,
       (
         subst (λ z. length z ≤ 1000000) (sym lines) (few_behind left b p s m w x count h ls last (count + length ls) refl k.broke.cause.4),
-        subst (λ z. WritesReplies s z h.out t) (sym said) (subst (λ z. WritesReplies s (filter_map block_command h.done) h.out z) (sym same) h.writes),
+        subst (λ z. Writes false s z h.out t) (sym said) (subst (λ z. Writes false s (filter_map block_command h.done) h.out z) (sym same) h.writes),
       ),
     )
 
@@ -230,7 +214,7 @@ ends_limit left b p c q s m t w x y count h k same kept =
       subst (λ z. Appends w z h.out) (sym kept) h.written,
       (
         omega (arith, ap length lines, length-append (h.lines ++ ls) (raw_lines (byte ∷ c)), full, some_line byte c),
-        subst (λ z. WritesReplies s z h.out t) (sym said) (subst (λ z. WritesReplies s (filter_map block_command h.done) h.out z) (sym same) h.writes),
+        subst (λ z. Writes false s z h.out t) (sym said) (subst (λ z. Writes false s (filter_map block_command h.done) h.out z) (sym same) h.writes),
       ),
     )
 
@@ -256,20 +240,10 @@ ends_write left b p c q s m t w x y count h k = go k.whole k.block where
   written : Appends w y (h.out ++ k.out)
   written = Appends-trans w x y _ _ h.written k.written
 
-  front : (cs others : List Command) → cs ≡ (filter_map block_command h.done ++ option_to_list k.command) ++ others → WritesFrontOfReplies s cs (h.out ++ k.out) t
-  front cs others e = record {
-    earlier = filter_map block_command h.done;
-    last = k.command;
-    others = others;
-    first = e ∙ append_assoc (filter_map block_command h.done) (option_to_list k.command) others;
-    mid = m;
-    sent = h.out;
-    whole = h.writes;
-    front = k.out;
-    unwritten = k.unwritten;
-    cut = k.writes;
-    written = refl;
-  }
+  front : (cs others : List Command) → cs ≡ (filter_map block_command h.done ++ option_to_list k.command) ++ others → Writes true s cs (h.out ++ k.out) t
+  front cs others e =
+      subst (λ (ds : List Command). Writes true s ds (h.out ++ k.out) t) (sym (e ∙ append_assoc (filter_map block_command h.done) (option_to_list k.command) others))
+      (Writes-append true s m t (filter_map block_command h.done) (option_to_list k.command ++ others) h.out k.out h.writes (last_written m t k.command others k.out k.unwritten k.writes))
 
   go : (whole : Bool) → TookBlock k.command whole b p c q count k.count' → Ends (Err Write) left q s t w y
   go true block =

@@ -1,5 +1,5 @@
 -- What is told of a line that was served.
-use Rattle.wi_cli.proofs.Vocabulary.{◌≡◌, Bool, Err, List, Ok, Result, Some, [], ap, append-nil, false, refl, subst, sym, ℕ, ◌++◌, ◌∙◌, list_any, IsRead, IsReadAs, command_of, IsServed, KeepsMemory, RefusedAs, Told, Done, MayRefuse, lies_outside, As, Command, Csv, Drop, IsImportStep, IsStep, State, Refusal, placed, form}
+use Rattle.wi_cli.proofs.Vocabulary.{◌≡◌, Bool, Err, List, Ok, Result, Some, [], ap, append-nil, false, refl, subst, sym, ℕ, ◌++◌, ◌∙◌, list_any, IsRead, command_of, IsServed, KeepsMemory, RefusedAs, Told, Done, MayRefuse, lies_outside, As, Command, Csv, Drop, IsImportStep, IsStep, State, Refusal, placed, form}
 use Rattle.wi_scenarios.specs.declared.refusal.Refusal.TheVariants.{Memory}
 use Rattle.wi_scenarios.specs.Answer as answer
 use Rattle.wi_cli.specs.declared.reply.Reply.TheVariants.{Refused}
@@ -46,7 +46,8 @@ imported_again force at text first again s m n t lacks h same k =
 
 -- ---- of the command that it was read from
 
-pub told_done : (c d : Command) (s t : State) (out : List ℕ) → IsReadAs c (Ok d) → IsServed d (Ok tt) s t out → Told (Some c) Done s t out
+pub told_done : (c : Command) (d : ReadCommand) (s t : State) (out : List ℕ) → IsRead c (Ok d) → IsServed (command_of d) (Ok tt) s t out → Told (Some c) Done s t out
+unfolding IsRead
 told_done c d s t out r h = spans s c r.0 (Ok (t, out)) (subst (λ (x : Command). IsStep s x (Ok (t, out))) r.1 h.serves)
 
 keeps_so : (c : Command) (s : State) → KeepsMemory (placed c) (Err Memory) s → KeepsMemory c (Err Memory) s
@@ -59,7 +60,8 @@ refuses : (e : Refusal) (c : Command) (s : State) → list_any lies_outside (for
 refuses Memory c s o h k = may_lack s c o (record { answer = h.answer; is_answer = spans s c o h.answer h.is_answer; grows = h.grows }) (keeps_so c s k)
 refuses e c s o h k = spans s c o (Err e) h
 
-pub told_refused : (c d : Command) (e : Refusal) (s t : State) (out records : List ℕ) → IsReadAs c (Ok d) → IsServed d (Err e) s t records → Told (Some c) (Refused e) s t out
+pub told_refused : (c : Command) (d : ReadCommand) (e : Refusal) (s t : State) (out records : List ℕ) → IsRead c (Ok d) → IsServed (command_of d) (Err e) s t records → Told (Some c) (Refused e) s t out
+unfolding IsRead
 told_refused c d e s t out records r h =
     let as_placed : IsServed (placed c) (Err e) s t records = subst (λ (x : Command). IsServed x (Err e) s t records) r.1 h in
     (as_placed.serves.1, refuses e c s r.0 as_placed.serves.0 as_placed.keeps)
@@ -69,4 +71,5 @@ refused_so Memory c s n h = absurd (n refl)
 refused_so e c s n h = h
 
 pub told_bad : (c : Command) (e : Refusal) (s : State) (out : List ℕ) → IsRead c (Err e) → Told (Some c) (Refused e) s s out
+unfolding IsRead
 told_bad c e s out h = (refl, refused_so e c s h.1 (h.0 s))

@@ -1,7 +1,7 @@
 -- A line served, and its reply written.
-use Rattle.wi_cli.proofs.Vocabulary.{◌≡◌, ℕ, ◌+◌, ◌<◌, ◌≤◌, Bool, ◌||◌, not, cond, ltb, ap, refl, ◌∙◌, ⊎_elim, Some, List, ◌++◌, length, take, drop, sym, subst, Option, None, [], Appends-nil, length-append, arith, option_to_list, Appends, Appends-trans, take-append-drop, take-append-le, length-take, take_all, lt-ltb, cases_lt, is_utf8, without_cr, take-append-add, AppendsFront, State, Passed, Reply, Told, reply_bytes, csv_line, line_command, text_command, line_front, RunFault, Result, Err, Broke, Memory, Read, Write, ScriptLimit, TookLine, TookBlock, BrokeBlock, Turned, Stopped, WritesReplies, Ok, MatchResult, CanRead, ReadsOn, IsReplied, Command, Unreadable}
+use Rattle.wi_cli.proofs.Vocabulary.{◌≡◌, ℕ, ◌+◌, ◌<◌, ◌≤◌, Bool, ◌||◌, not, cond, ltb, ap, refl, ◌∙◌, ⊎_elim, Some, List, ◌++◌, length, take, drop, sym, subst, Option, None, [], Appends-nil, length-append, arith, option_to_list, Appends, Appends-trans, take-append-drop, take-append-le, length-take, take_all, lt-ltb, cases_lt, is_utf8, without_cr, take-append-add, AppendsFront, State, Passed, Reply, Told, reply_bytes, csv_line, line_command, text_command, line_front, RunFault, Result, Err, Broke, Memory, Read, Write, ScriptLimit, TookLine, TookBlock, BrokeBlock, Turned, Stopped, Ok, MatchResult, CanRead, ReadsOn, IsReplied, Command, Unreadable, false, Writes}
 use Rattle.wi_cli.specs.Inner.Turn.{CutShort}
-use Rattle.wi_cli.proofs.RunLemmas.{WritesReplies-told}
+use Rattle.wi_cli.proofs.RunLemmas.{Writes-told}
 use Rattle.wi_cli.proofs.ReadingLemmas.{stops_unwritten}
 use Rattle.wi_cli.proofs.TakenLemmas.{IsCounted, plain_block}
 use Rattle.wi_cli.proofs.DataLemmas.{no_csv}
@@ -41,7 +41,7 @@ asked_block whole b l b' l' line front count count' command most k e same none i
 pub turned : (whole : Bool) (b : List ℕ) (l : Option (List ℕ)) (b' : List ℕ) (l' : Option (List ℕ)) (count count' : ℕ) (s t : State) (w w' : Option (List ℕ)) (command : Option Command) (a : Reply) (out : List ℕ)
     → TookBlock command whole b l b' l' count count' → Told command a s t out → Appends w w' (reply_bytes a out) → Turned whole b l b' l' count count' s t w w'
 turned whole b l b' l' count count' s t w w' command a out k told h =
-    record { command = command; block = k; out = reply_bytes a out; written = h; writes = WritesReplies-told command a s t out told }
+    record { command = command; block = k; out = reply_bytes a out; written = h; writes = Writes-told command a s t out told }
 
 -- a line that is passed over
 pub passed : (whole : Bool) (b : List ℕ) (l : Option (List ℕ)) (b' : List ℕ) (l' : Option (List ℕ)) (count count' : ℕ) (s : State) (w : Option (List ℕ))
@@ -66,7 +66,7 @@ cut_short whole b l b' l' count count' s t w w' command a out k told h = record 
   out = take h.0 (reply_bytes a out);
   unwritten = drop h.0 (reply_bytes a out);
   written = h.2;
-  writes = subst (λ x. WritesReplies s (option_to_list command) x t) (sym (take-append-drop h.0 (reply_bytes a out))) (WritesReplies-told command a s t out told);
+  writes = subst (λ x. Writes false s (option_to_list command) x t) (sym (take-append-drop h.0 (reply_bytes a out))) (Writes-told command a s t out told);
 }
 
 -- a block was taken and served, and its reply was written, or a front of it

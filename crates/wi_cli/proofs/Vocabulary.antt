@@ -1,6 +1,6 @@
 -- The words of the library, of the crates below and of this crate's definitions that its proofs are written in.
 pub use Rattle.memchr.specs.Find.{NoneBefore, Nowhere, Passes, is_byte}
-pub use Rattle.std.proofs.Common.{Bool, Err, IfErr, IfOk, List, None, Ok, OnOk, Option, Result, Some, [], ap, append-nil, append_assoc, ap₂, arith, bytes_eq, codes, cond, drop, eqb, false, filter, filter_map, get_or, if◌then◌else◌, inl, inr, length, length-append, ltb, map, max, min, nat_eq, nat_le, nat_lt, not, ok_or, option_map, refl, rules, subst, subst₂, suc, sym, take, tests, true, vec_capacity, zero, ℕ, ⊎_elim, ◌%◌, ◌&&◌, ◌*◌, ◌++◌, ◌+◌, ◌-◌, ◌/◌, ◌<◌, ◌==◌, ◌||◌, ◌∙◌, ◌∷◌, ◌≡◌, ◌≤◌, ◌⊎◌}
+pub use Rattle.std.proofs.Common.{Bool, Err, IfErr, IfOk, List, None, Ok, OnOk, Option, Result, Some, [], ap, append-nil, append_assoc, ap₂, arith, bytes_eq, codes, cond, drop, eqb, false, filter, filter_map, get_or, if◌then◌else◌, inl, inr, length, length-append, ltb, max, min, nat_eq, nat_le, nat_lt, not, ok_or, option_map, refl, rules, subst, subst₂, suc, sym, take, tests, true, vec_capacity, zero, ℕ, ⊎_elim, ◌%◌, ◌&&◌, ◌*◌, ◌++◌, ◌+◌, ◌-◌, ◌/◌, ◌<◌, ◌==◌, ◌||◌, ◌∙◌, ◌∷◌, ◌≡◌, ◌≤◌, ◌⊎◌}
 pub use Rattle.std.proofs.KnownBytes.{Appends-kept, Appends-nil, Appends-trans, Consumes-nil, Consumes-trans}
 pub use Rattle.std.proofs.Math.Bool.{or-false, or-true}
 pub use Rattle.std.proofs.Math.Seq.{drop-append_seam, take-add, take-append-add, take-append_seam}
@@ -24,7 +24,7 @@ pub use Rattle.std.specs.Result.{result_err}
 pub use Rattle.std.specs.Str.{IsCharBoundary, IsUtf8, all_ascii_digits, byte, is_utf8}
 pub use Rattle.std.specs.Str.Parse.{digits_value, digits_value_after}
 pub use Rattle.std.specs.Str.Pattern.{CutsPrefixes, FindsCharPrefix, IsTrimStartMatches}
-pub use Rattle.wi_cli.specs.Events.{AreEvents, Runs}
+pub use Rattle.wi_cli.specs.Events.{AreEvents}
 pub use Rattle.wi_cli.specs.InTurn.{RunInTurn}
 pub use Rattle.wi_cli.specs.Inner.Ahead.{Takes, budget}
 pub use Rattle.wi_cli.specs.Inner.Asked.{IsAsked}
@@ -32,25 +32,22 @@ pub use Rattle.wi_cli.specs.Inner.Blocks.{Block, begun, blocks, blocks_from, is_
 pub use Rattle.wi_cli.specs.Inner.CsvCommand.{CsvLine, csv_by_name, csv_named, csv_of, csv_operands, csv_text, is_long, read_lines}
 unfoldable pub use Rattle.wi_cli.specs.Inner.CsvCommand.{csv_line}
 pub use Rattle.wi_cli.specs.Inner.Data.{AddedTo, BrokeData, HoldsLines, IsCsv, IsTarget, TookData, command_of_csv, target_of, wants}
-pub use Rattle.wi_cli.specs.Inner.EditCommands.{clear_command, fill_command, fill_command_of, set_command}
-pub use Rattle.wi_cli.specs.Inner.Forms.{AND, A_CELL, A_NAME, A_RECT, A_SESSION, A_SIDE, END, Form, Kind, MAYBE, TEXT, Value, Values, Words, as_form, base_form, changes_form, clear_form, compare_form, drop_form, edit_forms, export_form, fill_form, formula_form, forms, made, named_command, named_in, read_word, read_words, scenario_form, set_form, show_form, spelled, table_form, use_form}
-unfoldable pub use Rattle.wi_cli.specs.Inner.Forms.{spelled_command}
+pub use Rattle.wi_cli.specs.Inner.Forms.{AND, A_CELL, A_NAME, A_RECT, A_SESSION, A_SIDE, END, Form, Kind, MAYBE, TEXT, Value, Values, Words, as_form, base_form, changes_form, clear_form, compare_form, drop_form, edit_forms, export_form, fill_form, formula_form, forms, made, named_command, named_in, read_word, read_words, scenario_form, set_form, show_form, table_form, use_form}
+unfoldable pub use Rattle.wi_cli.specs.Inner.Forms.{spelled, spelled_command}
 pub use Rattle.wi_cli.specs.Inner.Front.{AppendsFront}
-pub use Rattle.wi_cli.specs.Inner.LookCommands.{changes_command, compare_command, export_command, formula_command, show_command}
 pub use Rattle.wi_cli.specs.Inner.Operands.{Reading, at_end, both, is_all_spaces, line_fault, name_or_none, of_name, of_operand, only_name, read_any, read_any_area, read_by, read_side, spelled_corners, unless_refused, worse}
 unfoldable pub use Rattle.wi_cli.specs.Inner.Operands.{spelled_cell, spelled_rect}
 pub use Rattle.wi_cli.specs.Inner.Reading.{Broke, CanRead, HasStopped, ReadsOn, TookLine, TookPart, raw}
 unfoldable pub use Rattle.wi_cli.specs.Inner.Reading.{line_front}
 pub use Rattle.wi_cli.specs.Inner.Reply.{reply, refused_cell}
 unfoldable pub use Rattle.wi_cli.specs.Inner.Reply.{refused}
-pub use Rattle.wi_cli.specs.Inner.Run.{WritesReplies}
-pub use Rattle.wi_cli.specs.Inner.RunOutcome.{RunOutcome, WritesFrontOfReplies}
+pub use Rattle.wi_cli.specs.Inner.RunOutcome.{RunOutcome}
 unfoldable pub use Rattle.wi_cli.specs.Inner.RunOutcome.{limited}
-pub use Rattle.wi_cli.specs.Inner.ScenarioCommands.{as_command, base_command, drop_command, scenario_command, use_command}
 pub use Rattle.wi_cli.specs.Inner.Script.{block_command, command_with, commands, is_comment, text_command, whole_lines}
 unfoldable pub use Rattle.wi_cli.specs.Inner.Script.{all_commands, complete_commands, line_command}
-pub use Rattle.wi_cli.specs.Inner.Spelling.{IsRead, IsReadAs, IsReading, command_of, placed}
-pub use Rattle.wi_cli.specs.Inner.TableCommand.{table_command, table_of_one, table_of_two}
+pub use Rattle.wi_cli.specs.Inner.Spelling.{IsReadAs, IsReading, command_of, placed}
+unfoldable pub use Rattle.wi_cli.specs.Inner.Spelling.{IsRead}
+pub use Rattle.wi_cli.specs.Inner.Several.{fill_of, table_behind, table_of_one, table_of_two}
 pub use Rattle.wi_cli.specs.Inner.Taken.{AreBlocks, AreBlocksOf, AreWhole, BrokeLines, TookLines}
 pub use Rattle.wi_cli.specs.Inner.Told.{IsServed, KeepsMemory, RefusedAs, Told, reply_bytes}
 pub use Rattle.wi_cli.specs.Inner.Turn.{BrokeBlock, IsReplied, Stopped, TookBlock, Turned}
@@ -67,22 +64,11 @@ pub use Rattle.wi_cli.specs.declared.fault.RunFault.{RunFault}
 pub use Rattle.wi_cli.specs.declared.fault.RunFault.TheVariants.{Memory, Read, ScriptLimit, Write}
 pub use Rattle.wi_cli.specs.declared.reply.Reply.{Reply}
 pub use Rattle.wi_cli.specs.declared.reply.Reply.TheVariants.{Done, Passed}
-pub use Rattle.wi_csv.specs.Records.{recs}
-pub use Rattle.wi_import.proofs.ImportLemmas.{some_import}
-pub use Rattle.wi_import.specs.Fields.{Field, areas_from, fields_at, fields_from, record_areas_at}
-pub use Rattle.wi_import.specs.Imports.{IsImport}
-pub use Rattle.wi_parser.proofs.ContentsOfTexts.{content_is_one}
-pub use Rattle.wi_parser.specs.Inner.Answered.{IsAnsweredAs}
-pub use Rattle.wi_parser.specs.Inner.Reading.{content_read}
-pub use Rattle.wi_parser.specs.declared.content.Content.{Content}
-pub use Rattle.wi_parser.specs.declared.fault.ParseFault.{ParseFault}
 pub use Rattle.wi_propagate.specs.KeptSheet.{KeptSheet}
 pub use Rattle.wi_scenario_list.specs.Bases.{lacks}
-pub use Rattle.wi_scenario_list.specs.Scenarios.{has_scenario, is_full}
 pub use Rattle.wi_scenarios.specs.Answer.{Answer, MayGrow, MayRefuse, may_grow}
 pub use Rattle.wi_scenarios.specs.Commands.Causes.{BadCommand, BadField, BadLine, Cause, CutShort, EditLimit, Full, Holds, InUse, IsFirst, LeavesSheet, Loop, NoScenario, NumberRange, OutOfSheet, Outside, Stale, Syntax, TooDeep, TooLarge, TooLong, TooMany, lies_outside, order, stale_cell}
 pub use Rattle.wi_scenarios.specs.Commands.Command.{As, Base, Changes, Clear, Command, Compare, Csv, Drop, Export, Fill, Formula, Scenario, Set, Show, Table, Unknown, Unreadable, Use, form, may_force}
-pub use Rattle.wi_scenarios.specs.Commands.Edits.{fields, named}
 pub use Rattle.wi_scenarios.specs.Commands.Operands.{ADDR, ANY, CONTENT, Cell, Corners, LINES, NAME, Operand, RECT, SESSION, SIDE, WORD, address, area, is_outside}
 pub use Rattle.wi_scenarios.specs.Commands.Step.{IsFirstOf, IsImportStep, IsStep, Tells, causes}
 pub use Rattle.wi_scenarios.specs.Events.{MayHappen, left_by}
@@ -92,7 +78,6 @@ pub use Rattle.wi_scenarios.specs.declared.refusal.Refusal.{Refusal}
 pub use Rattle.wi_sessions.specs.Sessions.{has_session}
 pub use Rattle.wi_store.specs.Store.{Stored}
 pub use Rattle.wi_store.specs.declared.limits.Limits.{Limits}
-pub use Rattle.wi_values.proofs.Imports.{imported_exactly}
 pub use Rattle.wi_values.proofs.Letters.{letters_of_column}
 pub use Rattle.wi_values.proofs.ReadsBack.{no_letters, scan}
 pub use Rattle.wi_values.proofs.Spelling.{digits_step, letters_above_zero}
@@ -101,8 +86,6 @@ pub use Rattle.wi_values.specs.Address.{Area, column_of, columns, is_column, is_
 unfoldable pub use Rattle.wi_values.specs.Address.{address_text, letters_within}
 pub use Rattle.wi_values.specs.AddressReading.{cell_at, corners}
 unfoldable pub use Rattle.wi_values.specs.AddressReading.{address_at, read_address, read_rect}
-pub use Rattle.wi_values.specs.Imported.{IsImported}
-pub use Rattle.wi_values.specs.Inner.Import.{imported}
-pub use Rattle.wi_values.specs.Name.{bytes_of, is_name, read_name}
+pub use Rattle.wi_values.specs.Name.{is_name, read_name}
 pub use Rattle.wi_values.specs.declared.address.AddressFault.{AddressFault}
 pub use Rattle.wi_values.specs.declared.address.AddressFault.TheVariants.{Shape}

@@ -1,6 +1,5 @@
--- A script's commands one after another: what the laws for these are told of them, a run as events, and each scenario's
--- chain.
-use Rattle.std.specs.Prelude.{◌≡◌, List, [], ◌∷◌, map}
+-- A script's commands one after another, as events.
+use Rattle.std.specs.Prelude.{◌≡◌, List, map}
 use Rattle.std.specs.List.{flat_map}
 use Rattle.wi_scenarios.specs.State.{State}
 use Rattle.wi_scenarios.specs.Events.{Event, MayFollow, state_after}
@@ -8,14 +7,6 @@ use Rattle.wi_scenarios.specs.Commands.Command.{Command}
 use Rattle.wi_scenarios.specs.Commands.Step.{IsStep}
 use Rattle.wi_cli.specs.Inner.Reply.{reply}
 use Rattle.wi_cli.specs.Lines.{Bytes}
-use Rattle.wi_cli.specs.Reply.{Replies}
-
--- the commands have these replies, one after another, and leave this state at the end
-abbrev pub Runs : State → List Command → List Bytes → State → Type 0
-Runs s [] [] t = t ≡ s
-Runs s (c ∷ cs) (r ∷ rs) t = (mid : State) × Replies s c r mid × Runs mid cs rs t
-Runs s [] (r ∷ rs) t = ⊥
-Runs s (c ∷ cs) [] t = ⊥
 
 -- Events of these commands may follow one another from s; their replies are these bytes, and they leave this state.
 pub record AreEvents (s : State) (cs : List Command) (out : Bytes) (t : State) : Type 0 where

@@ -1,15 +1,11 @@
 -- Words of the code's own contracts, and readers that laws tie to the definitions. Nothing here needs belief.
 pub mod Operands
 pub mod Forms
-pub mod EditCommands
-pub mod ScenarioCommands
-pub mod LookCommands
-pub mod TableCommand
+pub mod Several
 pub mod CsvCommand
 pub mod Blocks
 pub mod Script
 pub mod Reply
-pub mod Run
 pub mod RunOutcome
 pub mod Ahead
 pub mod Asked

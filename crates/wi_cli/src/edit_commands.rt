@@ -4,9 +4,9 @@ ghost use Rattle.std.specs.Prelude.{true, Some};
 ghost use Rattle.wi_scenarios.specs.Commands.Command.{Unknown};
 ghost use Rattle.wi_cli.specs.Lines.{first_word, after_word};
 ghost use Rattle.wi_cli.specs.Inner.CsvCommand.{csv_operands, csv_named};
-ghost use Rattle.wi_cli.specs.Inner.EditCommands.{set_command, clear_command, fill_command, fill_command_of};
-ghost use Rattle.wi_cli.specs.Inner.Forms.{edit_forms, named_in};
-ghost use Rattle.wi_cli.specs.Inner.Spelling.{IsReading};
+ghost use Rattle.wi_cli.specs.Inner.Several.{fill_of};
+ghost use Rattle.wi_cli.specs.Inner.Forms.{set_form, clear_form, fill_form, edit_forms, spelled, named_in};
+ghost use Rattle.wi_cli.specs.Inner.Spelling.{IsRead, IsReading};
 ghost use Rattle.wi_cli.specs.Inner.Asked.{IsAsked};
 
 use crate::command::Command;
@@ -51,9 +51,10 @@ fn read_import(force: bool, operands: &str) -> Line<'_>
 }
 
 /// `set ADDR CONTENT`, where CONTENT is all after the one space that follows ADDR.
+#[tactic(auto, using(crate::proofs::Ties::Readings::set_so))]
 #[inline(always)]
 pub(crate) fn read_set(force: bool, operands: &str) -> Result<Command<'_>, Refusal>
-    ensures { IsReading (set_command force operands.now) result }
+    ensures { IsRead (spelled (set_form force) operands.now) result }
 {
     let (address, content) = split_word(operands);
     if content.is_empty() {
@@ -64,16 +65,18 @@ pub(crate) fn read_set(force: bool, operands: &str) -> Result<Command<'_>, Refus
 }
 
 /// `clear RECT`.
+#[tactic(auto, using(crate::proofs::Ties::Readings::clear_so))]
 fn read_clear(force: bool, operands: &str) -> Result<Command<'_>, Refusal>
-    ensures { IsReading (clear_command force operands.now) result }
+    ensures { IsRead (spelled (clear_form force) operands.now) result }
 {
     let area = Rect::read(only_word(operands)?.as_bytes())?;
     Ok(Command::Clear { force, area })
 }
 
 /// `fill ADDR RECT`.
+#[tactic(auto, using(crate::proofs::Ties::Readings::fill_so))]
 fn read_fill(force: bool, operands: &str) -> Result<Command<'_>, Refusal>
-    ensures { IsReading (fill_command force operands.now) result }
+    ensures { IsRead (spelled (fill_form force) operands.now) result }
 {
     let (from, others) = split_word(operands);
     let area = only_word(others)?;
@@ -90,7 +93,7 @@ fn filled<'a>(
     from: Result<Address, AddressFault>,
     area: Result<Rect, AddressFault>,
 ) -> Result<Command<'a>, Refusal>
-    ensures { IsReading (fill_command_of force from area) result }
+    ensures { IsReading (fill_of force from area) result }
 {
     if let Some(fault) = worse(from.err(), area.err()) {
         return Err(Refusal::from(fault));

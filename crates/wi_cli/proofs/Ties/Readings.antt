@@ -1,5 +1,5 @@
 -- As what the operands behind a name are read, and the command that they spell.
-use Rattle.wi_cli.proofs.Vocabulary.{◌≡◌, Bool, Err, None, Ok, Option, Result, Some, [], ap, ap₂, arith, false, if◌then◌else◌, inl, inr, length, option_map, refl, subst, sym, true, ℕ, ◌==◌, ◌||◌, ◌∙◌, ◌∷◌, or-false, nat_tests, list_any, result_err, clear_command, fill_command, fill_command_of, set_command, A_NAME, END, MAYBE, as_form, base_form, changes_form, clear_form, compare_form, drop_form, export_form, fill_form, formula_form, scenario_form, set_form, show_form, table_form, use_form, changes_command, compare_command, export_command, formula_command, show_command, Reading, is_all_spaces, line_fault, of_name, of_operand, read_any, read_any_area, read_by, read_side, spelled_cell, spelled_rect, as_command, base_command, drop_command, scenario_command, use_command, IsRead, IsReadAs, IsReading, table_command, table_of_one, table_of_two, Bytes, after_word, first_word, lacks, BadCommand, BadLine, lies_outside, As, Base, Changes, Clear, Command, Compare, Drop, Export, Fill, Formula, Scenario, Set, Show, Unknown, Unreadable, Use, Cell, Corners, is_outside, IsStep, State, Refusal, Area, is_column, is_row, read_address, read_rect, read_name, AddressFault, Shape, made, spelled, at_end, both, form, address, area, Values, AND, A_CELL, A_RECT}
+use Rattle.wi_cli.proofs.Vocabulary.{◌≡◌, Bool, Err, None, Ok, Option, Result, Some, [], ap, ap₂, arith, false, if◌then◌else◌, inl, inr, length, option_map, refl, subst, sym, true, ℕ, ◌==◌, ◌||◌, ◌∙◌, ◌∷◌, or-false, nat_tests, list_any, result_err, fill_of, A_NAME, END, MAYBE, as_form, base_form, changes_form, clear_form, compare_form, drop_form, export_form, fill_form, formula_form, scenario_form, set_form, show_form, table_form, use_form, Reading, is_all_spaces, line_fault, of_name, of_operand, read_any, read_any_area, read_by, read_side, spelled_cell, spelled_rect, IsRead, IsReadAs, IsReading, table_of_one, table_of_two, Bytes, after_word, first_word, lacks, BadCommand, BadLine, lies_outside, As, Base, Changes, Clear, Command, Compare, Drop, Export, Fill, Formula, Scenario, Set, Show, Unknown, Unreadable, Use, Cell, Corners, is_outside, IsStep, State, Refusal, Area, is_column, is_row, read_address, read_rect, read_name, AddressFault, Shape, made, spelled, at_end, both, form, address, area, Values, AND, A_CELL, A_RECT, name_or_none, only_name, table_behind}
 use Rattle.wi_values.specs.declared.address.AddressFault.TheVariants.{Outside}
 use Rattle.wi_scenarios.specs.declared.refusal.Refusal.TheVariants as refusal
 use Rattle.wi_scenarios.specs.Commands.Operands.{cell, corners}
@@ -20,7 +20,11 @@ unknown s = (BadCommand, inr (λ h. h, inl (tt, refl)), refl)
 pub unreadable : IsReadAs Unreadable (Err refusal.BadLine)
 unreadable s = (BadLine, inl (tt, refl), refl)
 
-pub read_as : (c : Command) (w : Reading) (r : Result ReadCommand Refusal) → IsReadAs c w → IsReading w r → IsRead c r
+abbrev Read : Type 0
+Read = Result ReadCommand Refusal
+
+read_as : (c : Command) (w : Reading) (r : Read) → IsReadAs c w → IsReading w r → IsRead c r
+unfolding IsRead
 read_as c w (Ok d) h k = subst (λ (v : Reading). IsReadAs c v) k h
 read_as c w (Err e) h k = (subst (λ (v : Reading). IsReadAs c v) k.0 h, k.1)
 
@@ -59,21 +63,36 @@ module _ (f : Corners → Command) (is : (r : Corners) → IsReadAs (f r) (of_op
   rect_end true None w e = bad _ _ (ap (λ (x : Result Area AddressFault). of_operand x (λ a. Ok (f (corners a)))) e) refl
   rect_end true (Some r) w e = subst (λ (x : Result Area AddressFault). IsReadAs (f r) (of_operand x (λ a. Ok (f (corners a))))) (sym e) (is r)
 
-  rect_read : (text : Bytes) → IsReadAs (made (both (spelled_rect (first_word text)) (ended (is_all_spaces (after_word text)))) (λ v. f v.0)) (at_end (after_word text) (of_operand (read_rect (first_word text)) (λ a. Ok (f (corners a)))))
-  rect_read text = rect_end (is_all_spaces (after_word text)) (spelled_rect (first_word text)) (read_rect (first_word text)) ((same_rect (first_word text)).read)
+  abbrev rect_text : Bytes → Reading
+  rect_text text = at_end (after_word text) (of_operand (read_rect (first_word text)) (λ a. Ok (f (corners a))))
 
-pub clear_read : (force : Bool) (text : Bytes) → IsReadAs (spelled (clear_form force) text) (clear_command force text)
-clear_read force text = rect_read (λ r. Clear force r) (λ r. of_rect r (λ r. Clear force r) (λ e s. clear_step s force r true e) (λ e. (clear_outside force false r e, refl))) text
+  abbrev rect_spelled : Bytes → Command
+  rect_spelled text = made (both (spelled_rect (first_word text)) (ended (is_all_spaces (after_word text)))) (λ v. f v.0)
 
-pub show_read : (text : Bytes) → IsReadAs (spelled show_form text) (show_command text)
-show_read text = rect_read (λ r. Show r) (λ r. of_rect r (λ r. Show r) (λ e s. show_step s r true (is_large r) e refl) (λ e. (or-false _ ∙ e, refl))) text
+  rect_so : (text : Bytes) (r : Read) → IsReading (rect_text text) r → IsRead (rect_spelled text) r
+  rect_so text r k =
+      read_as (rect_spelled text) (rect_text text) r (rect_end (is_all_spaces (after_word text)) (spelled_rect (first_word text)) (read_rect (first_word text)) ((same_rect (first_word text)).read)) k
 
-pub export_read : (text : Bytes) → IsReadAs (spelled export_form text) (export_command text)
-export_read text = rect_read (λ r. Export r) (λ r. of_rect r (λ r. Export r) (λ e s. export_step s r true (is_large r) e refl) (λ e. (or-false _ ∙ e, refl))) text
+pub clear_so : (force : Bool) (text : Bytes) (r : Read) → IsReading (at_end (after_word text) (of_operand (read_rect (first_word text)) (λ a. Ok (Clear force (corners a))))) r
+    → IsRead (spelled (clear_form force) text) r
+unfolding spelled
+clear_so force text r k = rect_so (λ r. Clear force r) (λ r. of_rect r (λ r. Clear force r) (λ e s. clear_step s force r true e) (λ e. (clear_outside force false r e, refl))) text r k
+
+pub show_so : (text : Bytes) (r : Read) → IsReading (at_end (after_word text) (of_operand (read_rect (first_word text)) (λ a. Ok (Show (corners a))))) r → IsRead (spelled show_form text) r
+unfolding spelled
+show_so text r k = rect_so (λ r. Show r) (λ r. of_rect r (λ r. Show r) (λ e s. show_step s r true (is_large r) e refl) (λ e. (or-false _ ∙ e, refl))) text r k
+
+pub export_so : (text : Bytes) (r : Read) → IsReading (at_end (after_word text) (of_operand (read_rect (first_word text)) (λ a. Ok (Export (corners a))))) r → IsRead (spelled export_form text) r
+unfolding spelled
+export_so text r k = rect_so (λ r. Export r) (λ r. of_rect r (λ r. Export r) (λ e s. export_step s r true (is_large r) e refl) (λ e. (or-false _ ∙ e, refl))) text r k
 
 -- ---- a cell
 
-pub formula_read : (text : Bytes) → IsReadAs (spelled formula_form text) (formula_command text)
+abbrev pub formula_text : Bytes → Reading
+formula_text text = at_end (after_word text) (of_operand (read_address (first_word text)) (λ at. Ok (Formula (cell at))))
+
+formula_read : (text : Bytes) → IsReadAs (spelled formula_form text) (formula_text text)
+unfolding spelled
 formula_read text = by (is_all_spaces (after_word text)) (spelled_cell (first_word text)) (read_address (first_word text)) ((same_addr (first_word text)).read)
   where
     by : (b : Bool) (o : Option Cell) (w : Result ℕ AddressFault) → w ≡ read_any o
@@ -85,11 +104,18 @@ formula_read text = by (is_all_spaces (after_word text)) (spelled_cell (first_wo
         subst (λ (x : Result ℕ AddressFault). IsReadAs (Formula c) (of_operand x (λ at. Ok (Formula (cell at))))) (sym e)
         (of_cell c (λ c. Formula c) (λ o s. outside_first s (Formula c) (λ h. h) (λ h. h) (λ h. h) (or-false _ ∙ o)) (λ o. (or-false _ ∙ o, refl)))
 
+pub formula_so : (text : Bytes) (r : Read) → IsReading (formula_text text) r → IsRead (spelled formula_form text) r
+formula_so text r k = read_as (spelled formula_form text) (formula_text text) r (formula_read text) k
+
 set_out : (force b : Bool) (c : Cell) (text : Bytes) → is_outside c ≡ b → list_any lies_outside (form (Set force c text)) ≡ b
 set_out true b c text e = or-false _ ∙ e
 set_out false b c text e = or-false _ ∙ e
 
-pub set_read : (force : Bool) (text : Bytes) → IsReadAs (spelled (set_form force) text) (set_command force text)
+abbrev pub set_text : Bool → Bytes → Reading
+set_text force text = if length (after_word text) == 0 then Err refusal.BadCommand else of_operand (read_address (first_word text)) (λ at. Ok (Set force (cell at) (after_word text)))
+
+set_read : (force : Bool) (text : Bytes) → IsReadAs (spelled (set_form force) text) (set_text force text)
+unfolding spelled
 set_read force text = by (after_word text) (spelled_cell (first_word text)) (read_address (first_word text)) ((same_addr (first_word text)).read)
   where
     by : (t : Bytes) (o : Option Cell) (w : Result ℕ AddressFault) → w ≡ read_any o
@@ -106,7 +132,14 @@ set_read force text = by (after_word text) (spelled_cell (first_word text)) (rea
             subst (λ (v : Result ℕ AddressFault). IsReadAs (Set force c (x ∷ xs)) (of_operand v (λ at. Ok (Set force (cell at) (x ∷ xs))))) (sym e)
             (of_cell c (λ c. Set force c (x ∷ xs)) (λ o s. outside_first s (Set force c (x ∷ xs)) (λ h. h) (λ h. h) (λ h. h) (set_out force true c (x ∷ xs) o)) (λ o. (set_out force false c (x ∷ xs) o, refl)))
 
-pub scenario_read : (text : Bytes) → IsReadAs (spelled scenario_form text) (scenario_command text)
+pub set_so : (force : Bool) (text : Bytes) (r : Read) → IsReading (set_text force text) r → IsRead (spelled (set_form force) text) r
+set_so force text r k = read_as (spelled (set_form force) text) (set_text force text) r (set_read force text) k
+
+abbrev pub scenario_text : Bytes → Reading
+scenario_text text = of_name (read_name (first_word text)) (λ name. of_operand (read_address (first_word (after_word text))) (λ at. Ok (Scenario name (cell at) (after_word (after_word text)))))
+
+scenario_read : (text : Bytes) → IsReadAs (spelled scenario_form text) (scenario_text text)
+unfolding spelled
 scenario_read text =
     by (read_name (first_word text)) (spelled_cell (first_word (after_word text))) (read_address (first_word (after_word text))) ((same_addr (first_word (after_word text))).read)
   where
@@ -119,6 +152,9 @@ scenario_read text =
         (of_cell c (λ c. Scenario name c (after_word (after_word text)))
         (λ o s. outside_first s (Scenario name c (after_word (after_word text))) (λ h. h) (λ h. h) (λ h. h) (or-false _ ∙ o)) (λ o. (or-false _ ∙ o, refl)))
 
+pub scenario_so : (text : Bytes) (r : Read) → IsReading (scenario_text text) r → IsRead (spelled scenario_form text) r
+scenario_so text r k = read_as (spelled scenario_form text) (scenario_text text) r (scenario_read text) k
+
 -- ---- names
 
 -- one name, and no word behind it
@@ -129,11 +165,19 @@ name_end f is false (Some n) = unknown
 name_end f is true None = unknown
 name_end f is true (Some n) = is n
 
-pub drop_read : (text : Bytes) → IsReadAs (spelled drop_form text) (drop_command text)
-drop_read text = name_end (λ n. Drop n) (λ n. (refl, refl)) (is_all_spaces (after_word text)) (read_name (first_word text))
+name_so : (f : Bytes → Command) → ((n : Bytes) → IsReadAs (f n) (Ok (f n))) → (text : Bytes) (r : Read) → IsReading (of_name (only_name text) (λ n. Ok (f n))) r
+    → IsRead (made (both (read_name (first_word text)) (ended (is_all_spaces (after_word text)))) (λ v. f v.0)) r
+name_so f is text r k =
+    read_as (made (both (read_name (first_word text)) (ended (is_all_spaces (after_word text)))) (λ v. f v.0)) (of_name (only_name text) (λ n. Ok (f n))) r
+    (name_end f is (is_all_spaces (after_word text)) (read_name (first_word text))) k
 
-pub as_read : (text : Bytes) → IsReadAs (spelled as_form text) (as_command text)
-as_read text = name_end (λ n. As n) (λ n. (refl, refl)) (is_all_spaces (after_word text)) (read_name (first_word text))
+pub drop_so : (text : Bytes) (r : Read) → IsReading (of_name (only_name text) (λ n. Ok (Drop n))) r → IsRead (spelled drop_form text) r
+unfolding spelled
+drop_so text r k = name_so (λ n. Drop n) (λ n. (refl, refl)) text r k
+
+pub as_so : (text : Bytes) (r : Read) → IsReading (of_name (only_name text) (λ n. Ok (As n))) r → IsRead (spelled as_form text) r
+unfolding spelled
+as_so text r k = name_so (λ n. As n) (λ n. (refl, refl)) text r k
 
 -- a name, or nothing
 abbrev may : Bool → Bool → Option Bytes → Option (Values (MAYBE A_NAME END))
@@ -142,7 +186,11 @@ may b c o = if b then Some None else option_map (λ v. Some v) (both o (ended c)
 abbrev may_read : Bool → Bool → Option Bytes → Option (Option Bytes)
 may_read b c o = if b then Some None else option_map (λ (n : Bytes). Some n) (if c then o else None)
 
-pub use_read : (text : Bytes) → IsReadAs (spelled use_form text) (use_command text)
+abbrev pub use_text : Bytes → Reading
+use_text text = of_name (name_or_none text) (λ name. Ok (Use name))
+
+use_read : (text : Bytes) → IsReadAs (spelled use_form text) (use_text text)
+unfolding spelled
 use_read text = by (is_all_spaces text) (is_all_spaces (after_word text)) (read_name (first_word text))
   where
     by : (b c : Bool) (o : Option Bytes) → IsReadAs (made (may b c o) use_form.make) (of_name (may_read b c o) (λ name. Ok (Use name)))
@@ -152,7 +200,14 @@ use_read text = by (is_all_spaces text) (is_all_spaces (after_word text)) (read_
     by false true None = unknown
     by false true (Some n) = (refl, refl)
 
-pub base_read : (text : Bytes) → IsReadAs (spelled base_form text) (base_command text)
+pub use_so : (text : Bytes) (r : Read) → IsReading (use_text text) r → IsRead (spelled use_form text) r
+use_so text r k = read_as (spelled use_form text) (use_text text) r (use_read text) k
+
+abbrev pub base_text : Bytes → Reading
+base_text text = of_name (read_name (first_word text)) (λ name. of_name (name_or_none (after_word text)) (λ other. Ok (Base name other)))
+
+base_read : (text : Bytes) → IsReadAs (spelled base_form text) (base_text text)
+unfolding spelled
 base_read text = by (read_name (first_word text)) (is_all_spaces (after_word text)) (is_all_spaces (after_word (after_word text))) (read_name (first_word (after_word text)))
   where
     by : (p : Option Bytes) (b c : Bool) (o : Option Bytes) → IsReadAs (made (both p (may b c o)) base_form.make) (of_name p (λ name. of_name (may_read b c o) (λ other. Ok (Base name other))))
@@ -163,16 +218,35 @@ base_read text = by (read_name (first_word text)) (is_all_spaces (after_word tex
     by (Some n) false true None = unknown
     by (Some n) false true (Some m) = (refl, refl)
 
-pub changes_read : (text : Bytes) → IsReadAs (spelled changes_form text) (changes_command text)
+pub base_so : (text : Bytes) (r : Read) → IsReading (base_text text) r → IsRead (spelled base_form text) r
+base_so text r k = read_as (spelled base_form text) (base_text text) r (base_read text) k
+
+abbrev pub changes_text : Bytes → Reading
+changes_text text = at_end text (Ok Changes)
+
+changes_read : (text : Bytes) → IsReadAs (spelled changes_form text) (changes_text text)
+unfolding spelled
 changes_read text = by (is_all_spaces text)
   where
     by : (b : Bool) → IsReadAs (made (ended b) (λ v. Changes)) (if b then Ok Changes else Err refusal.BadCommand)
     by true = (refl, refl)
     by false = unknown
 
+pub changes_so : (text : Bytes) (r : Read) → IsReading (changes_text text) r → IsRead (spelled changes_form text) r
+changes_so text r k = read_as (spelled changes_form text) (changes_text text) r (changes_read text) k
+
 -- ---- several operands
 
-pub compare_read : (text : Bytes) → IsReadAs (spelled compare_form text) (compare_command text)
+abbrev pub compare_words : Bytes → Bytes → Bytes → Reading
+compare_words one two area = of_name (read_side one) (λ s. of_name (read_side two) (λ t. of_operand (read_rect area) (λ cells. Ok (Compare s t (corners cells)))))
+
+abbrev pub compare_text : Bytes → Reading
+compare_text text =
+    at_end (after_word (after_word (after_word text)))
+    (compare_words (first_word text) (first_word (after_word text)) (first_word (after_word (after_word text))))
+
+compare_read : (text : Bytes) → IsReadAs (spelled compare_form text) (compare_text text)
+unfolding spelled
 compare_read text =
     by (is_all_spaces (after_word (after_word (after_word text)))) (read_side (first_word text)) (read_side (first_word (after_word text))) (spelled_rect (first_word (after_word (after_word text))))
     (read_rect (first_word (after_word (after_word text)))) ((same_rect (first_word (after_word (after_word text)))).read)
@@ -191,32 +265,42 @@ compare_read text =
         subst (λ (x : Result Area AddressFault). IsReadAs (Compare s t r) (of_operand x (λ a. Ok (Compare s t (corners a))))) (sym e)
         (of_rect r (λ r. Compare s t r) (λ o u. compare_step u s t r true (is_large r) (lacks u.scenarios s || lacks u.scenarios t) o refl refl) (λ o. (or-false _ ∙ o, refl)))
 
-pub fill_read : (force : Bool) (text : Bytes) → IsReadAs (spelled (fill_form force) text) (fill_command force text)
+pub compare_so : (text : Bytes) (r : Read) → IsReading (compare_text text) r → IsRead (spelled compare_form text) r
+compare_so text r k = read_as (spelled compare_form text) (compare_text text) r (compare_read text) k
+
+abbrev pub fill_text : Bool → Bytes → Reading
+fill_text force text = at_end (after_word (after_word text)) (fill_of force (read_address (first_word text)) (read_rect (first_word (after_word text))))
+
+fill_read : (force : Bool) (text : Bytes) → IsReadAs (spelled (fill_form force) text) (fill_text force text)
+unfolding spelled
 fill_read force text =
     by (is_all_spaces (after_word (after_word text))) (spelled_cell (first_word text)) (spelled_rect (first_word (after_word text))) (read_address (first_word text)) (read_rect (first_word (after_word text)))
     ((same_addr (first_word text)).read) ((same_rect (first_word (after_word text))).read)
   where
-    inside : (c : Cell) (r : Corners) (x y : Bool) → is_outside c ≡ x → lies_out r ≡ y → IsReadAs (Fill force c r) (fill_command_of force (read_by x (address c)) (read_by y (area r)))
+    inside : (c : Cell) (r : Corners) (x y : Bool) → is_outside c ≡ x → lies_out r ≡ y → IsReadAs (Fill force c r) (fill_of force (read_by x (address c)) (read_by y (area r)))
     inside c r true true e g = λ s. fill_out s force c r true true e g refl
     inside c r true false e g = λ s. fill_out s force c r true false e g refl
     inside c r false true e g = λ s. fill_out s force c r false true e g refl
     inside c r false false e g = (fill_outside force false false c r e g, refl)
 
-    no_area : (v : Result ℕ AddressFault) → fill_command_of force v (Err Shape) ≡ Err refusal.BadCommand
+    no_area : (v : Result ℕ AddressFault) → fill_of force v (Err Shape) ≡ Err refusal.BadCommand
     no_area (Ok a) = refl
     no_area (Err Shape) = refl
     no_area (Err Outside) = refl
 
     by : (b : Bool) (o : Option Cell) (p : Option Corners) (v : Result ℕ AddressFault) (w : Result Area AddressFault) → v ≡ read_any o → w ≡ read_any_area p
-        → IsReadAs (made (both o (both p (ended b))) (λ v. Fill force v.0 v.1.0)) (if b then fill_command_of force v w else Err refusal.BadCommand)
+        → IsReadAs (made (both o (both p (ended b))) (λ v. Fill force v.0 v.1.0)) (if b then fill_of force v w else Err refusal.BadCommand)
     by false None p v w e g = unknown
     by false (Some c) None v w e g = unknown
     by false (Some c) (Some r) v w e g = unknown
-    by true None p v w e g = bad _ _ (ap (λ (x : Result ℕ AddressFault). fill_command_of force x w) e) refl
-    by true (Some c) None v w e g = bad _ _ (ap (fill_command_of force v) g ∙ no_area v) refl
+    by true None p v w e g = bad _ _ (ap (λ (x : Result ℕ AddressFault). fill_of force x w) e) refl
+    by true (Some c) None v w e g = bad _ _ (ap (fill_of force v) g ∙ no_area v) refl
     by true (Some c) (Some r) v w e g =
-        subst (λ (y : Result Area AddressFault). IsReadAs (Fill force c r) (fill_command_of force v y)) (sym g)
-        (subst (λ (x : Result ℕ AddressFault). IsReadAs (Fill force c r) (fill_command_of force x (read_area r))) (sym e) (inside c r (is_outside c) (lies_out r) refl refl))
+        subst (λ (y : Result Area AddressFault). IsReadAs (Fill force c r) (fill_of force v y)) (sym g)
+        (subst (λ (x : Result ℕ AddressFault). IsReadAs (Fill force c r) (fill_of force x (read_area r))) (sym e) (inside c r (is_outside c) (lies_out r) refl refl))
+
+pub fill_so : (force : Bool) (text : Bytes) (r : Read) → IsReading (fill_text force text) r → IsRead (spelled (fill_form force) text) r
+fill_so force text r k = read_as (spelled (fill_form force) text) (fill_text force text) r (fill_read force text) k
 
 -- ---- table
 
@@ -276,7 +360,12 @@ behind false true f r xs c ys = two f r xs c ys
 behind false false f r xs c ys =
     bad _ _ refl (ap (λ (o : Option (Cell × (Corners × Unit {0}))). table_of f r xs (option_map (λ v. Some v) o)) (ap (λ (o : Option (Corners × Unit {0})). both c o) (no_more ys) ∙ no_more c) ∙ none_of_it f r xs)
 
-pub table_read : (text : Bytes) → IsReadAs (spelled table_form text) (table_command text)
+abbrev pub table_text : Bytes → Reading
+table_text text =
+    table_behind (read_address (first_word text)) (read_address (first_word (after_word text))) (read_rect (first_word (after_word (after_word text)))) (after_word (after_word (after_word text)))
+
+table_read : (text : Bytes) → IsReadAs (spelled table_form text) (table_text text)
+unfolding spelled
 table_read text =
     let v = first_word text in
     let w = first_word (after_word text) in
@@ -292,3 +381,6 @@ table_read text =
     ∙ ap₂ (λ (k : Result ℕ AddressFault) (l : Result Area AddressFault). reading_behind b g (read_any (spelled_cell v)) k l (read_address y) (read_rect z)) ((same_addr w).read) ((same_rect x).read)
     ∙ ap₂ (λ (k : Result ℕ AddressFault) (l : Result Area AddressFault). reading_behind b g (read_any (spelled_cell v)) (read_any (spelled_cell w)) (read_any_area (spelled_rect x)) k l) ((same_addr y).read) ((same_rect z).read) in
     subst (λ (u : Reading). IsReadAs (spelled table_form text) u) (sym same) (behind b g (spelled_cell v) (spelled_cell w) (spelled_rect x) (spelled_cell y) (spelled_rect z))
+
+pub table_so : (text : Bytes) (r : Read) → IsReading (table_text text) r → IsRead (spelled table_form text) r
+table_so text r k = read_as (spelled table_form text) (table_text text) r (table_read text) k

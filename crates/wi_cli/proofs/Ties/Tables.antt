@@ -73,6 +73,19 @@ line_out : (is_line : Area → Bool) (b : Bool) (a : Area) → is_out (line_faul
 line_out is_line true a = refl
 line_out is_line false a = shape_out (is_line a)
 
+-- whether these faults pass a test, one by one
+abbrev AreTested : (Option AddressFault → Bool) → List (Option AddressFault) → List Bool → Type 0
+AreTested test [] [] = Unit {0}
+AreTested test (o ∷ os) (b ∷ bs) = (test o ≡ b) × AreTested test os bs
+AreTested test [] (b ∷ bs) = ⊥
+AreTested test (o ∷ os) [] = ⊥
+
+any_is : (test : Option AddressFault → Bool) (os : List (Option AddressFault)) (bs : List Bool) → AreTested test os bs → list_any test os ≡ list_any (λ b. b) bs
+any_is test [] [] h = refl
+any_is test (o ∷ os) (b ∷ bs) h = ap₂ ◌||◌ h.0 (any_is test os bs h.1)
+any_is test [] (b ∷ bs) h = absurd h
+any_is test (o ∷ os) [] h = absurd h
+
 -- a table of these operands, by the worst of their faults
 abbrev pub one_faults : Result ℕ AddressFault → Result ℕ AddressFault → Result Area AddressFault → List (Option AddressFault)
 one_faults f r xs = result_err f ∷ result_err r ∷ line_fault is_column xs ∷ []
@@ -168,29 +181,16 @@ module _ (f r : Cell) (xs : Corners) (c : Cell) (ys : Corners) where
 
   shapes : list_any is_shape faults ≡ bent
   shapes =
-      let a = cell_shape (is_outside f) (address f) in
-      let b = cell_shape (is_outside r) (address r) in
-      let d = line_shape is_column (lies_out xs) (xs.0.column == xs.1.column) (area xs) (column_is xs) in
-      let e = cell_shape (is_outside c) (address c) in
-      let g = line_shape is_row (lies_out ys) (ys.0.row == ys.1.row) (area ys) (row_is ys) in
-      by _ _ _ _ _ _ _ a b d e g
-    where
-      by : (p q x y z u v : Bool) → p ≡ false → q ≡ false → x ≡ u → y ≡ false → z ≡ v → (p || (q || (x || (y || (z || false))))) ≡ (u || v)
-      by true q x y z u v a b d e g = absurd (both_ways true a refl)
-      by false true x y z u v a b d e g = absurd (both_ways true b refl)
-      by false false x true z u v a b d e g = absurd (both_ways true e refl)
-      by false false x false z u v a b d e g = ap (λ (k : Bool). x || k) (or-false z) ∙ ap (λ (k : Bool). k || z) d ∙ ap (λ (k : Bool). u || k) g
+      let u = not (lies_out xs) && not (xs.0.column == xs.1.column) in
+      let v = not (lies_out ys) && not (ys.0.row == ys.1.row) in
+      any_is is_shape faults (false ∷ false ∷ u ∷ false ∷ v ∷ [])
+      (cell_shape (is_outside f) (address f), (cell_shape (is_outside r) (address r), (line_shape is_column (lies_out xs) (xs.0.column == xs.1.column) (area xs) (column_is xs), (cell_shape (is_outside c) (address c), (line_shape is_row (lies_out ys) (ys.0.row == ys.1.row) (area ys) (row_is ys), tt)))))
+      ∙ ap (λ (b : Bool). u || b) (or-false v)
 
   outs : list_any is_out faults ≡ out
   outs =
-      by _ _ _ _ _ _ _ _ _ _ (cell_out (is_outside f) (address f)) (cell_out (is_outside r) (address r)) (line_out is_column (lies_out xs) (area xs)) (cell_out (is_outside c) (address c))
-      (line_out is_row (lies_out ys) (area ys))
-    where
-      by : (p q x y z p' q' x' y' z' : Bool) → p ≡ p' → q ≡ q' → x ≡ x' → y ≡ y' → z ≡ z' → (p || (q || (x || (y || (z || false))))) ≡ (p' || (q' || (x' || (y' || (z' || false)))))
-      by p q x y z p' q' x' y' z' a b d e g =
-          ap (λ (k : Bool). k || (q || (x || (y || (z || false))))) a ∙ ap (λ (k : Bool). p' || (k || (x || (y || (z || false))))) b
-          ∙ ap (λ (k : Bool). p' || (q' || (k || (y || (z || false))))) d ∙ ap (λ (k : Bool). p' || (q' || (x' || (k || (z || false))))) e
-          ∙ ap (λ (k : Bool). p' || (q' || (x' || (y' || (k || false))))) g
+      any_is is_out faults (is_outside f ∷ is_outside r ∷ lies_out xs ∷ is_outside c ∷ lies_out ys ∷ [])
+      (cell_out (is_outside f) (address f), (cell_out (is_outside r) (address r), (line_out is_column (lies_out xs) (area xs), (cell_out (is_outside c) (address c), (line_out is_row (lies_out ys) (area ys), tt)))))
 
   abbrev command : Reading
   command =
@@ -258,20 +258,14 @@ module _ (f r : Cell) (xs : Corners) where
 
   one_shapes : list_any is_shape faults_of_one ≡ one_bent
   one_shapes =
-      by _ _ _ _ (cell_shape (is_outside f) (address f)) (cell_shape (is_outside r) (address r))
-      (line_shape is_column (lies_out xs) (xs.0.column == xs.1.column) (area xs) (column_is xs))
-    where
-      by : (p q x u : Bool) → p ≡ false → q ≡ false → x ≡ u → (p || (q || (x || false))) ≡ u
-      by true q x u a b d = absurd (both_ways true a refl)
-      by false true x u a b d = absurd (both_ways true b refl)
-      by false false x u a b d = or-false x ∙ d
+      any_is is_shape faults_of_one (false ∷ false ∷ one_bent ∷ [])
+      (cell_shape (is_outside f) (address f), (cell_shape (is_outside r) (address r), (line_shape is_column (lies_out xs) (xs.0.column == xs.1.column) (area xs) (column_is xs), tt)))
+      ∙ or-false one_bent
 
   one_outs : list_any is_out faults_of_one ≡ one_out
-  one_outs = by _ _ _ _ _ _ (cell_out (is_outside f) (address f)) (cell_out (is_outside r) (address r)) (line_out is_column (lies_out xs) (area xs))
-    where
-      by : (p q x p' q' x' : Bool) → p ≡ p' → q ≡ q' → x ≡ x' → (p || (q || (x || false))) ≡ (p' || (q' || (x' || false)))
-      by p q x p' q' x' a b d =
-          ap (λ (k : Bool). k || (q || (x || false))) a ∙ ap (λ (k : Bool). p' || (k || (x || false))) b ∙ ap (λ (k : Bool). p' || (q' || (k || false))) d
+  one_outs =
+      any_is is_out faults_of_one (is_outside f ∷ is_outside r ∷ lies_out xs ∷ [])
+      (cell_out (is_outside f) (address f), (cell_out (is_outside r) (address r), (line_out is_column (lies_out xs) (area xs), tt)))
 
   abbrev one_command : Reading
   one_command = of_operand (read_cell f) (λ f. of_operand (read_cell r) (λ r. of_operand (read_area xs) (λ xs. Ok (Table (cell f) (cell r) (corners xs) None))))

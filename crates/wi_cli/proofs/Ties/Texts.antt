@@ -48,6 +48,7 @@ pub record Said (text : Bytes) (c : Command) : Type 0 where
   pub kept : is_passed_over text ≡ false
 
 spelled_as : (f : Form) (text : Bytes) (v : Values f.words) → IsWritten text (operands f.words v) → spelled f text ≡ f.make v
+unfolding spelled
 spelled_as f text v h = ap (λ (o : Option (Values f.words)). made o f.make) (words_read f.words text v h)
 
 module _ (text : Bytes) (f : Form) (v : Values f.words) where
@@ -105,10 +106,9 @@ said text Unreadable p h = absurd (both_ways false refl p)
 
 -- ---- what is spelled is written
 
--- a form of commands is the one that they are written in, behind words that stand in front
-record IsForm (front : List Operand → List Operand) (f : Form) : Type 0 where
-  pub is_form : (v : Values f.words) → form (f.make v) ≡ front (WORD f.name ∷ operands f.words v)
-  pub plain : (v : Values f.words) → is_plain (f.make v) ≡ true
+-- a form of commands is the one that they are written in, behind words that stand in front, and none has data lines
+abbrev IsForm : (List Operand → List Operand) → Form → Type 0
+IsForm front f = ((v : Values f.words) → form (f.make v) ≡ front (WORD f.name ∷ operands f.words v)) × ((v : Values f.words) → is_plain (f.make v) ≡ true)
 
 abbrev AreForms : (List Operand → List Operand) → List Form → Type 0
 AreForms front [] = Unit {0}
@@ -128,38 +128,11 @@ table_is f r xs None = refl
 table_is f r xs (Some y) = refl
 
 edits_are : (force : Bool) → AreForms (may_force force) (edit_forms force)
-edits_are force =
-    (record { is_form = λ v. refl; plain = λ v. refl }, (record { is_form = λ v. refl; plain = λ v. refl }, (record { is_form = λ v. refl; plain = λ v. refl }, tt)))
+edits_are force = ((λ v. refl, λ v. refl), ((λ v. refl, λ v. refl), ((λ v. refl, λ v. refl), tt)))
 
 all_are : AreForms (may_force false) forms
-all_are = (
-  record { is_form = λ v. refl; plain = λ v. refl },
-  (
-    record { is_form = λ v. refl; plain = λ v. refl },
-    (
-      record { is_form = λ v. base_is v.0 v.1; plain = λ v. refl },
-      (
-        record { is_form = λ v. use_is v; plain = λ v. refl },
-        (
-          record { is_form = λ v. refl; plain = λ v. refl },
-          (
-            record { is_form = λ v. refl; plain = λ v. refl },
-            (
-              record { is_form = λ v. refl; plain = λ v. refl },
-              (
-                record { is_form = λ v. refl; plain = λ v. refl },
-                (
-                  record { is_form = λ v. refl; plain = λ v. refl },
-                  (record { is_form = λ v. table_is v.0 v.1.0 v.1.1.0 v.1.1.1; plain = λ v. refl }, (record { is_form = λ v. refl; plain = λ v. refl }, edits_are false)),
-                ),
-              ),
-            ),
-          ),
-        ),
-      ),
-    ),
-  ),
-)
+all_are =
+    ((λ v. refl, λ v. refl), ((λ v. refl, λ v. refl), ((λ v. base_is v.0 v.1, λ v. refl), ((λ v. use_is v, λ v. refl), ((λ v. refl, λ v. refl), ((λ v. refl, λ v. refl), ((λ v. refl, λ v. refl), ((λ v. refl, λ v. refl), ((λ v. refl, λ v. refl), ((λ v. table_is v.0 v.1.0 v.1.1.0 v.1.1.1, λ v. refl), ((λ v. refl, λ v. refl), edits_are false)))))))))))
 
 -- a name and operands behind it spell a command, or none
 data Says (front : List Operand → List Operand) (name rest : Bytes) (c : Command) : Type 0 where
@@ -167,6 +140,7 @@ data Says (front : List Operand → List Operand) (name rest : Bytes) (c : Comma
   says_none : c ≡ Unknown → Says front name rest c
 
 found : (front : List Operand → List Operand) (fs : List Form) → AreForms front fs → (name rest : Bytes) → Says front name rest (named_in fs name rest)
+unfolding spelled
 found front [] are name rest = says_none refl
 found front (f ∷ fs) are name rest = by (bytes_eq name f.name) refl (read_words f.words rest) refl (found front fs are.1 name rest)
   where
@@ -195,8 +169,8 @@ module _ (text : Bytes) where
     where
       by : (b : Bool) → bytes_eq (first_word text) (codes "force") ≡ b → Says (may_force true) (first_word rest) (after_word rest) (chosen true) → Says (may_force false) (first_word text) rest (chosen false) → Reads text
       by true e (says f v is n w c) more =
-          spells (f.make v) (is.plain v) (subst (λ (os : List Operand). IsWritten text os) (sym (is.is_form v)) (is_word _ _ e, (n, w))) (ap chosen e ∙ c)
+          spells (f.make v) (is.1 v) (subst (λ (os : List Operand). IsWritten text os) (sym (is.0 v)) (is_word _ _ e, (n, w))) (ap chosen e ∙ c)
       by true e (says_none c) more = spells_none (ap chosen e ∙ c)
       by false e other (says f v is n w c) =
-          spells (f.make v) (is.plain v) (subst (λ (os : List Operand). IsWritten text os) (sym (is.is_form v)) (n, w)) (ap chosen e ∙ c)
+          spells (f.make v) (is.1 v) (subst (λ (os : List Operand). IsWritten text os) (sym (is.0 v)) (n, w)) (ap chosen e ∙ c)
       by false e other (says_none c) = spells_none (ap chosen e ∙ c)

@@ -57,7 +57,7 @@ made (Some x) make = make x
 made None make = Unknown
 
 -- the command of these operands
-abbrev pub spelled : Form → Bytes → Command
+unfoldable pub spelled : Form → Bytes → Command
 spelled f operands = made (read_words f.words operands) f.make
 
 abbrev pub set_form : Bool → Form

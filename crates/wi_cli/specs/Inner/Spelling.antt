@@ -58,7 +58,7 @@ IsReading r (Ok d) = r ≡ Ok (command_of d)
 IsReading r (Err e) = (r ≡ Err e) × (e ≢ Memory)
 
 -- the command was read; or it is refused, not as out of memory
-abbrev pub IsRead : Command → Result ReadCommand Refusal → Type 0
+unfoldable pub IsRead : Command → Result ReadCommand Refusal → Type 0
 IsRead c (Ok d) = IsReadAs c (Ok (command_of d))
 IsRead c (Err e) = IsReadAs c (Err e) × (e ≢ Memory)
 

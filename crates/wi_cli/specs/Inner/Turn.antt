@@ -1,5 +1,5 @@
 -- What one turn of a run does.
-use Rattle.std.specs.Prelude.{◌≡◌, ℕ, ◌<◌, Bool, true, List, [], ◌++◌, filter, filter_map, Option, Result, Ok, Err}
+use Rattle.std.specs.Prelude.{◌≡◌, ℕ, ◌<◌, Bool, true, false, List, [], ◌++◌, filter, filter_map, Option, Result, Ok, Err}
 use Rattle.std.specs.Option.{option_to_list}
 use Rattle.std.specs.Io.KnownBytes.{Appends}
 use Rattle.wi_cli.specs.declared.fault.RunFault.{RunFault}
@@ -11,7 +11,7 @@ use Rattle.wi_cli.specs.Lines.{raw_lines}
 use Rattle.wi_cli.specs.Inner.Blocks.{Block, blocks, is_complete}
 use Rattle.wi_cli.specs.Inner.Front.{AppendsFront}
 use Rattle.wi_cli.specs.Inner.Script.{block_command}
-use Rattle.wi_cli.specs.Inner.Run.{WritesReplies}
+use Rattle.wi_cli.specs.Outcome.{Writes}
 use Rattle.wi_cli.specs.Inner.Taken.{AreBlocksOf, TookLines, BrokeLines}
 use Rattle.wi_cli.specs.Inner.Told.{reply_bytes}
 
@@ -34,7 +34,7 @@ pub record Turned (whole : Bool) (buffer : List ℕ) (left : Option (List ℕ)) 
   pub block : TookBlock command whole buffer left buffer' left' count count'
   pub out : List ℕ
   pub written : Appends given given' out
-  pub writes : WritesReplies s (option_to_list command) out t
+  pub writes : Writes false s (option_to_list command) out t
 
 -- a block was taken and served, and a front of its reply was written
 pub record CutShort (buffer : List ℕ) (left : Option (List ℕ)) (buffer' : List ℕ) (left' : Option (List ℕ)) (count : ℕ) (s t : State) (given given' : Option (List ℕ)) : Type 0 where
@@ -45,7 +45,7 @@ pub record CutShort (buffer : List ℕ) (left : Option (List ℕ)) (buffer' : Li
   pub out : List ℕ
   pub unwritten : List ℕ
   pub written : Appends given given' out
-  pub writes : WritesReplies s (option_to_list command) (out ++ unwritten) t
+  pub writes : Writes false s (option_to_list command) (out ++ unwritten) t
 
 -- the reply to a block that was taken, whole or up to the end, was written, or a front of it
 abbrev pub IsReplied : Bool → Reply → List ℕ → Result Bool RunFault → Option (List ℕ) → Option (List ℕ) → Type 0

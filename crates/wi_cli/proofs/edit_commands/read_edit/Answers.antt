@@ -1,16 +1,15 @@
 use Rattle.wi_cli.proofs.Vocabulary.{refl}
 use Rattle.wi_cli.proofs.AskedLemmas.{edit_asked, plain_edit, no_edit}
-use Rattle.wi_cli.proofs.Ties.Readings.{set_read, clear_read, fill_read}
 use Rattle.wi_cli.proofs.edit_commands.read_edit.Goals as goal
 
 pub returns-in-set : goal.returns-in-set
-returns-in-set c = plain_edit c.args.force c.args.name.now c.args.operands.now _ _ _ c.in-set.is refl (set_read c.args.force c.args.operands.now) c.read_set.ensures
+returns-in-set c = plain_edit c.args.force c.args.name.now c.args.operands.now _ _ c.in-set.is refl c.read_set.ensures
 
 pub returns-in-clear : goal.returns-in-clear
-returns-in-clear c = plain_edit c.args.force c.args.name.now c.args.operands.now _ _ _ c.in-clear.is refl (clear_read c.args.force c.args.operands.now) c.read_clear.ensures
+returns-in-clear c = plain_edit c.args.force c.args.name.now c.args.operands.now _ _ c.in-clear.is refl c.read_clear.ensures
 
 pub returns-in-fill : goal.returns-in-fill
-returns-in-fill c = plain_edit c.args.force c.args.name.now c.args.operands.now _ _ _ c.in-fill.is refl (fill_read c.args.force c.args.operands.now) c.read_fill.ensures
+returns-in-fill c = plain_edit c.args.force c.args.name.now c.args.operands.now _ _ c.in-fill.is refl c.read_fill.ensures
 
 pub returns-in-csv : goal.returns-in-csv
 returns-in-csv c = edit_asked c.args.force c.args.name.now c.args.operands.now _ c.read_import.result c.in-csv.is c.read_import.ensures

@@ -1,13 +1,17 @@
--- The command `table`.
-use Rattle.std.specs.Prelude.{ℕ, List, Some, None, Result, Ok, if◌then◌else◌}
+-- What commands of several operands are read as, by what each operand is.
+use Rattle.std.specs.Prelude.{ℕ, Bool, List, Some, None, Result, Ok, if◌then◌else◌}
 use Rattle.std.specs.Result.{result_err}
 use Rattle.wi_values.specs.Address.{Area, is_column, is_row}
 use Rattle.wi_values.specs.AddressReading.{read_address, read_rect}
 use Rattle.wi_values.specs.declared.address.AddressFault.{AddressFault}
 use Rattle.wi_scenarios.specs.Commands.Operands.{cell, corners}
-use Rattle.wi_scenarios.specs.Commands.Command.{Table}
+use Rattle.wi_scenarios.specs.Commands.Command.{Fill, Table}
 use Rattle.wi_cli.specs.Lines.{first_word, after_word}
 use Rattle.wi_cli.specs.Inner.Operands.{Reading, at_end, of_operand, line_fault, worse, unless_refused, is_all_spaces}
+
+abbrev pub fill_of : Bool → Result ℕ AddressFault → Result Area AddressFault → Reading
+fill_of force from area =
+    unless_refused (worse (result_err from) (result_err area)) (of_operand from (λ from. of_operand area (λ area. Ok (Fill force (cell from) (corners area)))))
 
 abbrev pub table_of_one : Result ℕ AddressFault → Result ℕ AddressFault → Result Area AddressFault → Reading
 table_of_one f r xs =
@@ -24,9 +28,3 @@ abbrev pub table_behind : Result ℕ AddressFault → Result ℕ AddressFault �
 table_behind f r xs more =
     if is_all_spaces more then table_of_one f r xs
     else at_end (after_word (after_word more)) (table_of_two f r xs (read_address (first_word more)) (read_rect (first_word (after_word more))))
-
--- `table F R XCOLUMN`, and `table F R XCOLUMN C YROW`
-abbrev pub table_command : List ℕ → Reading
-table_command operands =
-    table_behind (read_address (first_word operands)) (read_address (first_word (after_word operands)))
-    (read_rect (first_word (after_word (after_word operands)))) (after_word (after_word (after_word operands)))
