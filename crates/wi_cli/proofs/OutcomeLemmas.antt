@@ -1,8 +1,8 @@
 -- A run of a script so far, and how it may end.
-use Rattle.wi_cli.proofs.Vocabulary.{◌≡◌, ℕ, ◌+◌, ◌-◌, ◌<◌, ◌≤◌, Bool, true, false, List, [], ◌∷◌, ◌++◌, length, take, refl, sym, ap, ◌∙◌, subst, Option, None, Some, Result, Ok, Err, IfErr, OnOk, append_assoc, append-nil, length-append, inl, inr, arith, concat, option_to_list, Appends, Keeps, Consumes, IsAtEnd, prepend_known, Appends-trans, Appends-nil, Appends-kept, take_at, filter_map-append, filter-append, concat-append, take-append-add, RunFault, Memory, Read, Write, ScriptLimit, State, Takes, raw_lines, Block, blocks, is_complete, block_command, commands, whole_lines, all_commands, complete_commands, AreWhole, AreBlocks, TookBlock, BrokeBlock, Turned, Stopped, RunOutcome, limited, IsRun, Command, Writes}
+use Rattle.wi_cli.proofs.Vocabulary.{◌≡◌, ℕ, ◌+◌, ◌-◌, ◌<◌, ◌≤◌, Bool, true, false, List, [], ◌∷◌, ◌++◌, length, take, refl, sym, ap, ◌∙◌, subst, Option, None, Some, Result, Ok, Err, IfErr, OnOk, append_assoc, append-nil, length-append, inl, inr, arith, concat, option_to_list, Appends, Keeps, Consumes, IsAtEnd, prepend_known, Appends-trans, Appends-nil, Appends-kept, take_at, filter_map-append, filter-append, concat-append, take-append-add, RunFault, Memory, Read, Write, ScriptLimit, State, Takes, raw_lines, Block, blocks, is_complete, block_command, commands, whole_lines, all_commands, complete_commands, AreWhole, AreBlocks, TookBlock, BrokeBlock, Turned, Stopped, limited, IsRun, Command, Writes, is_whole, Outcome}
 use Rattle.std.specs.List.{filter, filter_map}
 use Rattle.wi_cli.specs.Inner.Turn.{CutShort}
-use Rattle.wi_cli.proofs.Ties.Outcomes.{has_outcome}
+use Rattle.wi_cli.proofs.Ties.Outcomes.{all_is, read_is, many_is, cut_is, answered}
 use Rattle.wi_cli.proofs.ReadingLemmas.{Takes-trans}
 use Rattle.wi_cli.proofs.RunLemmas.{Writes-append, may_fail, last_written}
 use Rattle.wi_cli.proofs.LineLemmas.{AreWhole-none, AreWhole-append, last_whole, some_line}
@@ -148,10 +148,10 @@ module _ (left : Option (List ℕ)) (b : List ℕ) (p : Option (List ℕ)) (s m 
       }
 
 abbrev pub Ends : Result (Unit {0}) RunFault → Option (List ℕ) → Option (List ℕ) → State → State → Option (List ℕ) → Option (List ℕ) → Type 0
-Ends r left q s t given given' = (input : List ℕ) × (out : List ℕ) × Consumes left q input × Appends given given' out × RunOutcome r q s t input out
+Ends r left q s t given given' = (input : List ℕ) × (out : List ℕ) × Consumes left q input × Appends given given' out × Outcome q s t input out r
 
 ends_ok : (left q : Option (List ℕ)) (s t : State) (w y z : Option (List ℕ)) → IsOver left q s t w y → Keeps y z → (u : Unit {0}) → Ends (Ok u) left q s t w z
-ends_ok left q s t w y z o e u = (o.input, o.out, o.taken, Appends-kept w y z o.out o.written e, (o.few, o.writes))
+ends_ok left q s t w y z o e u = (o.input, o.out, o.taken, Appends-kept w y z o.out o.written e, (o.few, answered true false (raw_lines o.input) (all_commands o.input) (all_is o.input) s o.out t o.writes))
 
 ends_flush : (left q : Option (List ℕ)) (s t : State) (w y z : Option (List ℕ)) → IsOver left q s t w y → Keeps y z → Ends (Err Write) left q s t w z
 ends_flush left q s t w y z o e = (
@@ -159,7 +159,7 @@ ends_flush left q s t w y z o e = (
   o.out,
   o.taken,
   Appends-kept w y z o.out o.written e,
-  inr (o.at_end, o.few, may_fail s (all_commands o.input) o.out t o.writes),
+  inr (o.at_end, o.few, answered true true (raw_lines o.input) (all_commands o.input) (all_is o.input) s o.out t (may_fail s (all_commands o.input) o.out t o.writes)),
 )
 
 -- the flush at the end succeeded or failed
@@ -187,7 +187,8 @@ ends_read left b p c q s m t w x y count h k same kept =
       subst (λ z. Appends w z h.out) (sym kept) h.written,
       (
         subst (λ z. length z ≤ 1000000) (sym lines) (few_behind left b p s m w x count h ls last (count + length ls) refl k.broke.cause.4),
-        subst (λ z. Writes false s z h.out t) (sym said) (subst (λ z. Writes false s (filter_map block_command h.done) h.out z) (sym same) h.writes),
+        answered false false (filter is_whole (raw_lines input)) (complete_commands (raw_lines input)) (read_is input) s h.out t
+            (subst (λ z. Writes false s z h.out t) (sym said) (subst (λ z. Writes false s (filter_map block_command h.done) h.out z) (sym same) h.writes)),
       ),
     )
 
@@ -206,6 +207,7 @@ ends_limit left b p c q s m t w x y count h k same kept =
     let lines : raw_lines input ≡ (h.lines ++ ls) ++ raw_lines (byte ∷ c) = ap raw_lines (append_assoc (concat (h.lines ++ ls)) (byte ∷ []) c) ∙ are_whole.first (byte ∷ c) in
     let firsts : limited (raw_lines input) ≡ h.lines ++ ls = ap limited lines ∙ limited_at (h.lines ++ ls) (raw_lines (byte ∷ c)) full in
     let whole : whole_lines (h.lines ++ ls) ≡ h.lines ++ ls = ap whole_lines (sym (append-nil (h.lines ++ ls))) ∙ are_whole.whole [] ∙ append-nil (h.lines ++ ls) in
+    let many : 1000000 < length (raw_lines input) = omega (arith, ap length lines, length-append (h.lines ++ ls) (raw_lines (byte ∷ c)), full, some_line byte c) in
     let said : complete_commands (limited (raw_lines input)) ≡ filter_map block_command h.done =
     ap (λ z. filter_map block_command (filter is_complete (blocks z))) (ap whole_lines firsts ∙ whole) ∙ none_behind left b p s m w x count h ls k.none_complete in (
       input,
@@ -213,8 +215,9 @@ ends_limit left b p c q s m t w x y count h k same kept =
       consumed left c q _ taken,
       subst (λ z. Appends w z h.out) (sym kept) h.written,
       (
-        omega (arith, ap length lines, length-append (h.lines ++ ls) (raw_lines (byte ∷ c)), full, some_line byte c),
-        subst (λ z. Writes false s z h.out t) (sym said) (subst (λ z. Writes false s (filter_map block_command h.done) h.out z) (sym same) h.writes),
+        many,
+        answered false false (take 1000000 (raw_lines input)) (complete_commands (limited (raw_lines input))) (many_is input many) s h.out t
+            (subst (λ z. Writes false s z h.out t) (sym said) (subst (λ z. Writes false s (filter_map block_command h.done) h.out z) (sym same) h.writes)),
       ),
     )
 
@@ -258,7 +261,8 @@ ends_write left b p c q s m t w x y count h k = go k.whole k.block where
         h.out ++ k.out,
         consumed left c q _ (subst (Takes [] left c q) (all_bytes h.lines took.lines took.last none) (Takes-trans [] left b p c q _ _ h.taken took.taken)),
         written,
-        inl (front _ (complete_commands (take (1000000 - k.count') (raw_lines c))) (said ∙ ap (λ z. z ++ complete_commands (take (1000000 - k.count') (raw_lines c))) (with_command h.done block.taken k.command block.is_command))),
+        inl (answered false true (filter is_whole (take 1000000 (raw_lines (concat (h.lines ++ took.lines) ++ c)))) (complete_commands (limited (raw_lines (concat (h.lines ++ took.lines) ++ c)))) (cut_is (concat (h.lines ++ took.lines) ++ c)) s (h.out ++ k.out) t
+            (front (complete_commands (limited (raw_lines (concat (h.lines ++ took.lines) ++ c)))) (complete_commands (take (1000000 - k.count') (raw_lines c))) (said ∙ ap (λ z. z ++ complete_commands (take (1000000 - k.count') (raw_lines c))) (with_command h.done block.taken k.command block.is_command)))),
       )
   go false block =
       let took = block.took in
@@ -269,7 +273,12 @@ ends_write left b p c q s m t w x y count h k = go k.whole k.block where
         h.out ++ k.out,
         consumed_all left c q _ (Takes-trans [] left b p c q _ _ h.taken took.taken) (took.at_end refl),
         written,
-        inr (at_end_of c q (took.at_end refl), subst (λ z. length z ≤ 1000000) (sym lines) few, front _ [] (said ∙ sym (append-nil (filter_map block_command h.done ++ option_to_list k.command)))),
+        inr (
+          at_end_of c q (took.at_end refl),
+          subst (λ z. length z ≤ 1000000) (sym lines) few,
+          answered true true (raw_lines (concat h.lines ++ (concat took.lines ++ took.last))) (all_commands (concat h.lines ++ (concat took.lines ++ took.last))) (all_is (concat h.lines ++ (concat took.lines ++ took.last))) s (h.out ++ k.out) t
+              (front (all_commands (concat h.lines ++ (concat took.lines ++ took.last))) [] (said ∙ sym (append-nil (filter_map block_command h.done ++ option_to_list k.command)))),
+        ),
       )
 
 pub ends_stopped : (e : RunFault) (left : Option (List ℕ)) (b : List ℕ) (p : Option (List ℕ)) (c : List ℕ) (q : Option (List ℕ)) (s m t : State) (w x y : Option (List ℕ)) (count : ℕ)
@@ -300,7 +309,7 @@ run_is remaining read_failed contents write_failed flushed r source source' sink
   out = h.1;
   taken = h.2;
   written = h.3;
-  outcome = has_outcome r (remaining source') s t h.0 h.1 h.4;
+  outcome = h.4;
   all_read = all_read;
   reads = reads;
   writes = writes;

@@ -41,10 +41,8 @@ pub use Rattle.wi_cli.specs.Inner.Reading.{Broke, CanRead, HasStopped, ReadsOn, 
 unfoldable pub use Rattle.wi_cli.specs.Inner.Reading.{line_front}
 pub use Rattle.wi_cli.specs.Inner.Reply.{reply, refused_cell}
 unfoldable pub use Rattle.wi_cli.specs.Inner.Reply.{refused}
-pub use Rattle.wi_cli.specs.Inner.RunOutcome.{RunOutcome}
-unfoldable pub use Rattle.wi_cli.specs.Inner.RunOutcome.{limited}
 pub use Rattle.wi_cli.specs.Inner.Script.{block_command, command_with, commands, is_comment, text_command, whole_lines}
-unfoldable pub use Rattle.wi_cli.specs.Inner.Script.{all_commands, complete_commands, line_command}
+unfoldable pub use Rattle.wi_cli.specs.Inner.Script.{all_commands, complete_commands, limited, line_command}
 pub use Rattle.wi_cli.specs.Inner.Spelling.{IsReadAs, IsReading, command_of, placed}
 unfoldable pub use Rattle.wi_cli.specs.Inner.Spelling.{IsRead}
 pub use Rattle.wi_cli.specs.Inner.Several.{fill_of, table_behind, table_of_one, table_of_two}

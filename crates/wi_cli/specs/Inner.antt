@@ -6,7 +6,6 @@ pub mod CsvCommand
 pub mod Blocks
 pub mod Script
 pub mod Reply
-pub mod RunOutcome
 pub mod Ahead
 pub mod Asked
 pub mod Data

@@ -1,14 +1,14 @@
 -- The step of `csv`, by what its body finds.
-use Rattle.wi_scenarios.proofs.Words.{◌≡◌, ◌∙◌, ◌<◌, ◌≤◌, ℕ, Bool, true, false, ◌==◌, List, [], ◌∷◌, length, map, ◌⊎◌, inl, inr, Option, Some, Ok, Err, Result, if◌then◌else◌, refl, sym, ap, subst, arith, list_any, get_or, All-map, or-false, Any, both_ways, Area, Content, ImportFault, Field, fields_at, record_areas_at, AreChanges, IsFault, no_other, one_list, State, max_area, Answer, import_refusal, edit_answer, ◌-◌, None, nat_lt, nat_tests, Any-weaker, Any-from_list_any, list_any-from_Any, some_import}
-use Rattle.std.specs.List.{All, concat}
-use Rattle.std.specs.Str.{byte, IsUtf8}
+use Rattle.wi_scenarios.proofs.Words.{◌≡◌, ◌∙◌, ◌<◌, ◌≤◌, ℕ, Bool, true, false, ◌==◌, List, [], ◌∷◌, length, ◌⊎◌, inl, inr, Option, Some, Ok, Err, Result, if◌then◌else◌, refl, sym, ap, subst, arith, list_any, or-false, Any, both_ways, Area, Content, ImportFault, Field, fields_at, record_areas_at, AreChanges, IsFault, no_other, one_list, State, max_area, Answer, import_refusal, edit_answer, ◌-◌, None, nat_lt, nat_tests, Any-weaker, Any-from_list_any, list_any-from_Any, some_import}
+use Rattle.std.specs.List.{All}
+use Rattle.std.specs.Str.{IsUtf8}
 use Rattle.wi_values.specs.Imported.{IsImported}
 use Rattle.wi_import.specs.Fields.{IsInside}
 use Rattle.wi_import.specs.Imports.{IsImport, bad_field, too_long, out_of_sheet}
 use Rattle.wi_import.specs.declared.fault.ImportFault.TheVariants as import
 use Rattle.wi_scenarios.specs.declared.refusal.Refusal.TheVariants as refusal
 use Rattle.wi_scenarios.specs.Commands.DataLines.{max_line, without_lf}
-use Rattle.wi_scenarios.specs.Commands.Step.{AreDataLines, IsImportStep}
+use Rattle.wi_scenarios.specs.Commands.Step.{IsImportStep}
 use Rattle.wi_scenarios.proofs.CommandWords.{Command, Csv, form, Cell, is_outside, cell, Put, Puts, fields, named, after_edit, Cause, BadLine, BadCommand, CutShort, Outside, TooLarge, NoScenario, BadField, TooLong, OutOfSheet, NumberRange, TooDeep, Syntax, LeavesSheet, Stale, Full, EditLimit, Holds, lies_outside, is_missing, size, Does, IsStep, causes, IsFirstOf}
 use Rattle.wi_scenarios.proofs.EditSteps.{outside_first, last, edit_step}
 
@@ -35,28 +35,6 @@ no_long lines h k =
 
 all_come : (n m : ℕ) → n ≤ m → m < n → ⊥
 all_come n m h k = omega (arith, h, k)
-
--- each text is cut into its bytes
-abbrev pub one_by_one : List ℕ → List (List ℕ)
-one_by_one text = map (λ (b : ℕ). b ∷ []) text
-
-joined_again : (text : List ℕ) → concat (one_by_one text) ≡ text
-joined_again [] = refl
-joined_again (b ∷ bs) = ap (λ (xs : List ℕ). b ∷ xs) (joined_again bs)
-
-one_short : (b : ℕ) → length (without_lf (b ∷ [])) ≤ max_line
-one_short b = by (b == byte "\n")
-  where
-    by : (v : Bool) → length (if v then [] else b ∷ []) ≤ max_line
-    by true = omega arith
-    by false = omega arith
-
-pub some_lines : (text : List ℕ) → AreDataLines text 0 (one_by_one text)
-some_lines text = record {
-  joined = joined_again text;
-  short = All-map (λ (line : List ℕ). length (without_lf line) ≤ max_line) (λ (b : ℕ). b ∷ []) text (λ k d l. one_short (get_or text k d));
-  come = omega arith;
-}
 
 -- ---- the step
 

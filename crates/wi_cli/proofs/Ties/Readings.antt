@@ -1,6 +1,5 @@
 -- As what the operands behind a name are read, and the command that they spell.
-use Rattle.wi_cli.proofs.Vocabulary.{◌≡◌, Bool, Err, None, Ok, Option, Result, Some, [], ap, ap₂, arith, false, if◌then◌else◌, inl, inr, length, option_map, refl, subst, sym, true, ℕ, ◌==◌, ◌||◌, ◌∙◌, ◌∷◌, or-false, nat_tests, list_any, result_err, fill_of, A_NAME, END, MAYBE, as_form, base_form, changes_form, clear_form, compare_form, drop_form, export_form, fill_form, formula_form, scenario_form, set_form, show_form, table_form, use_form, Reading, is_all_spaces, line_fault, of_name, of_operand, read_any, read_any_area, read_by, read_side, spelled_cell, spelled_rect, IsRead, IsReadAs, IsReading, table_of_one, table_of_two, Bytes, after_word, first_word, lacks, BadCommand, BadLine, lies_outside, As, Base, Changes, Clear, Command, Compare, Drop, Export, Fill, Formula, Scenario, Set, Show, Unknown, Unreadable, Use, Cell, Corners, is_outside, IsStep, State, Refusal, Area, is_column, is_row, read_address, read_rect, read_name, AddressFault, Shape, made, spelled, at_end, both, form, address, area, Values, AND, A_CELL, A_RECT, name_or_none, only_name, table_behind}
-use Rattle.wi_values.specs.declared.address.AddressFault.TheVariants.{Outside}
+use Rattle.wi_cli.proofs.Vocabulary.{◌≡◌, Bool, Err, None, Ok, Option, Result, Some, [], ap, ap₂, arith, false, if◌then◌else◌, inl, inr, length, option_map, refl, subst, sym, true, ℕ, ◌==◌, ◌||◌, ◌∙◌, ◌∷◌, or-false, nat_tests, list_any, result_err, fill_of, A_NAME, END, MAYBE, as_form, base_form, changes_form, clear_form, compare_form, drop_form, export_form, fill_form, formula_form, scenario_form, set_form, show_form, table_form, use_form, Reading, is_all_spaces, line_fault, of_name, of_operand, read_any, read_any_area, read_by, read_side, spelled_cell, spelled_rect, IsRead, IsReadAs, IsReading, table_of_one, table_of_two, Bytes, after_word, first_word, lacks, BadCommand, BadLine, lies_outside, As, Base, Changes, Clear, Command, Compare, Drop, Export, Fill, Formula, Scenario, Set, Show, Unknown, Unreadable, Use, Cell, Corners, is_outside, IsStep, State, Refusal, Area, is_column, is_row, read_address, read_rect, read_name, AddressFault, Shape, made, spelled, at_end, both, form, address, area, Values, AND, A_CELL, A_RECT, name_or_none, only_name, table_behind, subst₂}
 use Rattle.wi_scenarios.specs.declared.refusal.Refusal.TheVariants as refusal
 use Rattle.wi_scenarios.specs.Commands.Operands.{cell, corners}
 use Rattle.wi_cli.specs.declared.command.Command.{Command as ReadCommand}
@@ -56,12 +55,12 @@ module _ (r : Corners) (f : Corners → Command) (outside : lies_out r ≡ true 
 
 -- one rectangle, and no word behind it
 module _ (f : Corners → Command) (is : (r : Corners) → IsReadAs (f r) (of_operand (read_area r) (λ a. Ok (f (corners a))))) where
-  rect_end : (b : Bool) (o : Option Corners) (w : Result Area AddressFault) → w ≡ read_any_area o
-      → IsReadAs (made (both o (ended b)) (λ v. f v.0)) (if b then of_operand w (λ a. Ok (f (corners a))) else Err refusal.BadCommand)
-  rect_end false None w e = unknown
-  rect_end false (Some r) w e = unknown
-  rect_end true None w e = bad _ _ (ap (λ (x : Result Area AddressFault). of_operand x (λ a. Ok (f (corners a)))) e) refl
-  rect_end true (Some r) w e = subst (λ (x : Result Area AddressFault). IsReadAs (f r) (of_operand x (λ a. Ok (f (corners a))))) (sym e) (is r)
+  rect_end : (b : Bool) (o : Option Corners)
+      → IsReadAs (made (both o (ended b)) (λ v. f v.0)) (if b then of_operand (read_any_area o) (λ a. Ok (f (corners a))) else Err refusal.BadCommand)
+  rect_end false None = unknown
+  rect_end false (Some r) = unknown
+  rect_end true None = unknown
+  rect_end true (Some r) = is r
 
   abbrev rect_text : Bytes → Reading
   rect_text text = at_end (after_word text) (of_operand (read_rect (first_word text)) (λ a. Ok (f (corners a))))
@@ -71,7 +70,9 @@ module _ (f : Corners → Command) (is : (r : Corners) → IsReadAs (f r) (of_op
 
   rect_so : (text : Bytes) (r : Read) → IsReading (rect_text text) r → IsRead (rect_spelled text) r
   rect_so text r k =
-      read_as (rect_spelled text) (rect_text text) r (rect_end (is_all_spaces (after_word text)) (spelled_rect (first_word text)) (read_rect (first_word text)) ((same_rect (first_word text)).read)) k
+      read_as (rect_spelled text) (rect_text text) r
+      (subst (λ (w : Result Area AddressFault). IsReadAs (rect_spelled text) (at_end (after_word text) (of_operand w (λ a. Ok (f (corners a)))))) (sym ((same_rect (first_word text)).read))
+      (rect_end (is_all_spaces (after_word text)) (spelled_rect (first_word text)))) k
 
 pub clear_so : (force : Bool) (text : Bytes) (r : Read) → IsReading (at_end (after_word text) (of_operand (read_rect (first_word text)) (λ a. Ok (Clear force (corners a))))) r
     → IsRead (spelled (clear_form force) text) r
@@ -93,16 +94,15 @@ formula_text text = at_end (after_word text) (of_operand (read_address (first_wo
 
 formula_read : (text : Bytes) → IsReadAs (spelled formula_form text) (formula_text text)
 unfolding spelled
-formula_read text = by (is_all_spaces (after_word text)) (spelled_cell (first_word text)) (read_address (first_word text)) ((same_addr (first_word text)).read)
+formula_read text =
+    subst (λ (w : Result ℕ AddressFault). IsReadAs (spelled formula_form text) (at_end (after_word text) (of_operand w (λ at. Ok (Formula (cell at)))))) (sym ((same_addr (first_word text)).read))
+    (by (is_all_spaces (after_word text)) (spelled_cell (first_word text)))
   where
-    by : (b : Bool) (o : Option Cell) (w : Result ℕ AddressFault) → w ≡ read_any o
-        → IsReadAs (made (both o (ended b)) (λ v. Formula v.0)) (if b then of_operand w (λ at. Ok (Formula (cell at))) else Err refusal.BadCommand)
-    by false None w e = unknown
-    by false (Some c) w e = unknown
-    by true None w e = bad _ _ (ap (λ (x : Result ℕ AddressFault). of_operand x (λ at. Ok (Formula (cell at)))) e) refl
-    by true (Some c) w e =
-        subst (λ (x : Result ℕ AddressFault). IsReadAs (Formula c) (of_operand x (λ at. Ok (Formula (cell at))))) (sym e)
-        (of_cell c (λ c. Formula c) (λ o s. outside_first s (Formula c) (λ h. h) (λ h. h) (λ h. h) (or-false _ ∙ o)) (λ o. (or-false _ ∙ o, refl)))
+    by : (b : Bool) (o : Option Cell) → IsReadAs (made (both o (ended b)) (λ v. Formula v.0)) (if b then of_operand (read_any o) (λ at. Ok (Formula (cell at))) else Err refusal.BadCommand)
+    by false None = unknown
+    by false (Some c) = unknown
+    by true None = unknown
+    by true (Some c) = of_cell c (λ c. Formula c) (λ o s. outside_first s (Formula c) (λ h. h) (λ h. h) (λ h. h) (or-false _ ∙ o)) (λ o. (or-false _ ∙ o, refl))
 
 pub formula_so : (text : Bytes) (r : Read) → IsReading (formula_text text) r → IsRead (spelled formula_form text) r
 formula_so text r k = read_as (spelled formula_form text) (formula_text text) r (formula_read text) k
@@ -116,21 +116,21 @@ set_text force text = if length (after_word text) == 0 then Err refusal.BadComma
 
 set_read : (force : Bool) (text : Bytes) → IsReadAs (spelled (set_form force) text) (set_text force text)
 unfolding spelled
-set_read force text = by (after_word text) (spelled_cell (first_word text)) (read_address (first_word text)) ((same_addr (first_word text)).read)
+set_read force text =
+    subst (λ (w : Result ℕ AddressFault). IsReadAs (spelled (set_form force) text) (if length (after_word text) == 0 then Err refusal.BadCommand else of_operand w (λ at. Ok (Set force (cell at) (after_word text))))) (sym ((same_addr (first_word text)).read))
+    (by (after_word text) (spelled_cell (first_word text)))
   where
-    by : (t : Bytes) (o : Option Cell) (w : Result ℕ AddressFault) → w ≡ read_any o
-        → IsReadAs (made (both o (Some t)) (λ v. Set force v.0 v.1)) (if length t == 0 then Err refusal.BadCommand else of_operand w (λ at. Ok (Set force (cell at) t)))
-    by [] None w e = unknown
-    by [] (Some c) w e = λ s. set_none s force c
-    by (x ∷ xs) o w e =
+    full : (x : ℕ) (xs : Bytes) (o : Option Cell) → IsReadAs (made (both o (Some (x ∷ xs))) (λ v. Set force v.0 v.1)) (of_operand (read_any o) (λ at. Ok (Set force (cell at) (x ∷ xs))))
+    full x xs None = unknown
+    full x xs (Some c) =
+        of_cell c (λ c. Set force c (x ∷ xs)) (λ o s. outside_first s (Set force c (x ∷ xs)) (λ h. h) (λ h. h) (λ h. h) (set_out force true c (x ∷ xs) o)) (λ o. (set_out force false c (x ∷ xs) o, refl))
+
+    by : (t : Bytes) (o : Option Cell) → IsReadAs (made (both o (Some t)) (λ v. Set force v.0 v.1)) (if length t == 0 then Err refusal.BadCommand else of_operand (read_any o) (λ at. Ok (Set force (cell at) t)))
+    by [] None = unknown
+    by [] (Some c) = λ s. set_none s force c
+    by (x ∷ xs) o =
         let some : (length (x ∷ xs) == 0) ≡ false = grind (arith, nat_tests) in
-        subst (λ (b : Bool). IsReadAs (made (both o (Some (x ∷ xs))) (λ v. Set force v.0 v.1)) (if b then Err refusal.BadCommand else of_operand w (λ at. Ok (Set force (cell at) (x ∷ xs))))) (sym some) (full o e)
-      where
-        full : (o : Option Cell) → w ≡ read_any o → IsReadAs (made (both o (Some (x ∷ xs))) (λ v. Set force v.0 v.1)) (of_operand w (λ at. Ok (Set force (cell at) (x ∷ xs))))
-        full None e = bad _ _ (ap (λ (v : Result ℕ AddressFault). of_operand v (λ at. Ok (Set force (cell at) (x ∷ xs)))) e) refl
-        full (Some c) e =
-            subst (λ (v : Result ℕ AddressFault). IsReadAs (Set force c (x ∷ xs)) (of_operand v (λ at. Ok (Set force (cell at) (x ∷ xs))))) (sym e)
-            (of_cell c (λ c. Set force c (x ∷ xs)) (λ o s. outside_first s (Set force c (x ∷ xs)) (λ h. h) (λ h. h) (λ h. h) (set_out force true c (x ∷ xs) o)) (λ o. (set_out force false c (x ∷ xs) o, refl)))
+        subst (λ (b : Bool). IsReadAs (made (both o (Some (x ∷ xs))) (λ v. Set force v.0 v.1)) (if b then Err refusal.BadCommand else of_operand (read_any o) (λ at. Ok (Set force (cell at) (x ∷ xs))))) (sym some) (full x xs o)
 
 pub set_so : (force : Bool) (text : Bytes) (r : Read) → IsReading (set_text force text) r → IsRead (spelled (set_form force) text) r
 set_so force text r k = read_as (spelled (set_form force) text) (set_text force text) r (set_read force text) k
@@ -141,16 +141,14 @@ scenario_text text = of_name (read_name (first_word text)) (λ name. of_operand 
 scenario_read : (text : Bytes) → IsReadAs (spelled scenario_form text) (scenario_text text)
 unfolding spelled
 scenario_read text =
-    by (read_name (first_word text)) (spelled_cell (first_word (after_word text))) (read_address (first_word (after_word text))) ((same_addr (first_word (after_word text))).read)
+    subst (λ (w : Result ℕ AddressFault). IsReadAs (spelled scenario_form text) (of_name (read_name (first_word text)) (λ name. of_operand w (λ at. Ok (Scenario name (cell at) (after_word (after_word text)))))))
+    (sym ((same_addr (first_word (after_word text))).read)) (by (after_word (after_word text)) (read_name (first_word text)) (spelled_cell (first_word (after_word text))))
   where
-    by : (n : Option Bytes) (o : Option Cell) (w : Result ℕ AddressFault) → w ≡ read_any o
-        → IsReadAs (made (both n (both o (Some (after_word (after_word text))))) (λ v. Scenario v.0 v.1.0 v.1.1)) (of_name n (λ name. of_operand w (λ at. Ok (Scenario name (cell at) (after_word (after_word text))))))
-    by None o w e = unknown
-    by (Some name) None w e = bad _ _ (ap (λ (v : Result ℕ AddressFault). of_operand v (λ at. Ok (Scenario name (cell at) (after_word (after_word text))))) e) refl
-    by (Some name) (Some c) w e =
-        subst (λ (v : Result ℕ AddressFault). IsReadAs (Scenario name c (after_word (after_word text))) (of_operand v (λ at. Ok (Scenario name (cell at) (after_word (after_word text)))))) (sym e)
-        (of_cell c (λ c. Scenario name c (after_word (after_word text)))
-        (λ o s. outside_first s (Scenario name c (after_word (after_word text))) (λ h. h) (λ h. h) (λ h. h) (or-false _ ∙ o)) (λ o. (or-false _ ∙ o, refl)))
+    by : (t : Bytes) (n : Option Bytes) (o : Option Cell) → IsReadAs (made (both n (both o (Some t))) (λ v. Scenario v.0 v.1.0 v.1.1)) (of_name n (λ name. of_operand (read_any o) (λ at. Ok (Scenario name (cell at) t))))
+    by t None o = unknown
+    by t (Some name) None = unknown
+    by t (Some name) (Some c) =
+        of_cell c (λ c. Scenario name c t) (λ o s. outside_first s (Scenario name c t) (λ h. h) (λ h. h) (λ h. h) (or-false _ ∙ o)) (λ o. (or-false _ ∙ o, refl))
 
 pub scenario_so : (text : Bytes) (r : Read) → IsReading (scenario_text text) r → IsRead (spelled scenario_form text) r
 scenario_so text r k = read_as (spelled scenario_form text) (scenario_text text) r (scenario_read text) k
@@ -248,22 +246,22 @@ compare_text text =
 compare_read : (text : Bytes) → IsReadAs (spelled compare_form text) (compare_text text)
 unfolding spelled
 compare_read text =
-    by (is_all_spaces (after_word (after_word (after_word text)))) (read_side (first_word text)) (read_side (first_word (after_word text))) (spelled_rect (first_word (after_word (after_word text))))
-    (read_rect (first_word (after_word (after_word text)))) ((same_rect (first_word (after_word (after_word text)))).read)
+    subst (λ (w : Result Area AddressFault). IsReadAs (spelled compare_form text) (at_end (after_word (after_word (after_word text))) (of_name (read_side (first_word text)) (λ s. of_name (read_side (first_word (after_word text))) (λ t. of_operand w (λ a. Ok (Compare s t (corners a))))))))
+    (sym ((same_rect (first_word (after_word (after_word text)))).read))
+    (by (is_all_spaces (after_word (after_word (after_word text)))) (read_side (first_word text)) (read_side (first_word (after_word text))) (spelled_rect (first_word (after_word (after_word text)))))
   where
-    by : (b : Bool) (p q : Option (Option Bytes)) (o : Option Corners) (w : Result Area AddressFault) → w ≡ read_any_area o
+    by : (b : Bool) (p q : Option (Option Bytes)) (o : Option Corners)
         → IsReadAs (made (both p (both q (both o (ended b)))) (λ v. Compare v.0 v.1.0 v.1.1.0))
-        (if b then of_name p (λ s. of_name q (λ t. of_operand w (λ a. Ok (Compare s t (corners a))))) else Err refusal.BadCommand)
-    by true None q o w e = unknown
-    by false None q o w e = unknown
-    by true (Some s) None o w e = unknown
-    by false (Some s) None o w e = unknown
-    by false (Some s) (Some t) None w e = unknown
-    by false (Some s) (Some t) (Some r) w e = unknown
-    by true (Some s) (Some t) None w e = bad _ _ (ap (λ (x : Result Area AddressFault). of_operand x (λ a. Ok (Compare s t (corners a)))) e) refl
-    by true (Some s) (Some t) (Some r) w e =
-        subst (λ (x : Result Area AddressFault). IsReadAs (Compare s t r) (of_operand x (λ a. Ok (Compare s t (corners a))))) (sym e)
-        (of_rect r (λ r. Compare s t r) (λ o u. compare_step u s t r true (is_large r) (lacks u.scenarios s || lacks u.scenarios t) o refl refl) (λ o. (or-false _ ∙ o, refl)))
+        (if b then of_name p (λ s. of_name q (λ t. of_operand (read_any_area o) (λ a. Ok (Compare s t (corners a))))) else Err refusal.BadCommand)
+    by true None q o = unknown
+    by false None q o = unknown
+    by true (Some s) None o = unknown
+    by false (Some s) None o = unknown
+    by false (Some s) (Some t) None = unknown
+    by false (Some s) (Some t) (Some r) = unknown
+    by true (Some s) (Some t) None = unknown
+    by true (Some s) (Some t) (Some r) =
+        of_rect r (λ r. Compare s t r) (λ o u. compare_step u s t r true (is_large r) (lacks u.scenarios s || lacks u.scenarios t) o refl refl) (λ o. (or-false _ ∙ o, refl))
 
 pub compare_so : (text : Bytes) (r : Read) → IsReading (compare_text text) r → IsRead (spelled compare_form text) r
 compare_so text r k = read_as (spelled compare_form text) (compare_text text) r (compare_read text) k
@@ -274,8 +272,9 @@ fill_text force text = at_end (after_word (after_word text)) (fill_of force (rea
 fill_read : (force : Bool) (text : Bytes) → IsReadAs (spelled (fill_form force) text) (fill_text force text)
 unfolding spelled
 fill_read force text =
-    by (is_all_spaces (after_word (after_word text))) (spelled_cell (first_word text)) (spelled_rect (first_word (after_word text))) (read_address (first_word text)) (read_rect (first_word (after_word text)))
-    ((same_addr (first_word text)).read) ((same_rect (first_word (after_word text))).read)
+    subst₂ (λ (v : Result ℕ AddressFault) (w : Result Area AddressFault). IsReadAs (spelled (fill_form force) text) (at_end (after_word (after_word text)) (fill_of force v w)))
+    (sym ((same_addr (first_word text)).read)) (sym ((same_rect (first_word (after_word text))).read))
+    (by (is_all_spaces (after_word (after_word text))) (spelled_cell (first_word text)) (spelled_rect (first_word (after_word text))))
   where
     inside : (c : Cell) (r : Corners) (x y : Bool) → is_outside c ≡ x → lies_out r ≡ y → IsReadAs (Fill force c r) (fill_of force (read_by x (address c)) (read_by y (area r)))
     inside c r true true e g = λ s. fill_out s force c r true true e g refl
@@ -283,21 +282,17 @@ fill_read force text =
     inside c r false true e g = λ s. fill_out s force c r false true e g refl
     inside c r false false e g = (fill_outside force false false c r e g, refl)
 
-    no_area : (v : Result ℕ AddressFault) → fill_of force v (Err Shape) ≡ Err refusal.BadCommand
-    no_area (Ok a) = refl
-    no_area (Err Shape) = refl
-    no_area (Err Outside) = refl
+    no_area : (a : ℕ) (x : Bool) → IsReadAs Unknown (fill_of force (read_by x a) (Err Shape))
+    no_area a true = unknown
+    no_area a false = unknown
 
-    by : (b : Bool) (o : Option Cell) (p : Option Corners) (v : Result ℕ AddressFault) (w : Result Area AddressFault) → v ≡ read_any o → w ≡ read_any_area p
-        → IsReadAs (made (both o (both p (ended b))) (λ v. Fill force v.0 v.1.0)) (if b then fill_of force v w else Err refusal.BadCommand)
-    by false None p v w e g = unknown
-    by false (Some c) None v w e g = unknown
-    by false (Some c) (Some r) v w e g = unknown
-    by true None p v w e g = bad _ _ (ap (λ (x : Result ℕ AddressFault). fill_of force x w) e) refl
-    by true (Some c) None v w e g = bad _ _ (ap (fill_of force v) g ∙ no_area v) refl
-    by true (Some c) (Some r) v w e g =
-        subst (λ (y : Result Area AddressFault). IsReadAs (Fill force c r) (fill_of force v y)) (sym g)
-        (subst (λ (x : Result ℕ AddressFault). IsReadAs (Fill force c r) (fill_of force x (read_area r))) (sym e) (inside c r (is_outside c) (lies_out r) refl refl))
+    by : (b : Bool) (o : Option Cell) (p : Option Corners) → IsReadAs (made (both o (both p (ended b))) (λ v. Fill force v.0 v.1.0)) (if b then fill_of force (read_any o) (read_any_area p) else Err refusal.BadCommand)
+    by false None p = unknown
+    by false (Some c) None = unknown
+    by false (Some c) (Some r) = unknown
+    by true None p = unknown
+    by true (Some c) None = no_area (address c) (is_outside c)
+    by true (Some c) (Some r) = inside c r (is_outside c) (lies_out r) refl refl
 
 pub fill_so : (force : Bool) (text : Bytes) (r : Read) → IsReading (fill_text force text) r → IsRead (spelled (fill_form force) text) r
 fill_so force text r k = read_as (spelled (fill_form force) text) (fill_text force text) r (fill_read force text) k

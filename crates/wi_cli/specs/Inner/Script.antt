@@ -1,8 +1,8 @@
 -- The commands that a script spells.
-use Rattle.std.specs.Prelude.{ℕ, Bool, true, false, ◌||◌, ◌==◌, not, List, [], ◌∷◌, length, filter, filter_map, Option, Some, None, nat_lt, if◌then◌else◌, codes}
+use Rattle.std.specs.Prelude.{ℕ, Bool, true, false, ◌||◌, ◌==◌, not, List, [], ◌∷◌, length, take, filter, filter_map, Option, Some, None, nat_lt, if◌then◌else◌, codes}
 use Rattle.std.specs.Str.{byte, is_utf8}
 use Rattle.wi_scenarios.specs.Commands.Command.{Command, Csv, Unreadable}
-use Rattle.wi_cli.specs.Lines.{raw_lines, without_lf, without_cr, is_whole, max_line}
+use Rattle.wi_cli.specs.Lines.{raw_lines, without_lf, without_cr, is_whole, max_line, max_lines}
 use Rattle.wi_cli.specs.Inner.Operands.{is_all_spaces, spelled_cell}
 use Rattle.wi_cli.specs.Inner.Forms.{spelled_command}
 use Rattle.wi_cli.specs.Inner.CsvCommand.{CsvLine, csv_line}
@@ -54,3 +54,7 @@ all_commands script = commands (raw_lines script)
 -- the commands of those lines that are complete, with all their data lines, where the end of the script has not come
 unfoldable pub complete_commands : List (List ℕ) → List Command
 complete_commands ls = filter_map block_command (filter is_complete (blocks (whole_lines ls)))
+
+-- the lines that a run may have
+unfoldable pub limited : List (List ℕ) → List (List ℕ)
+limited ls = take max_lines ls
