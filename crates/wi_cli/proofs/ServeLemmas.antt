@@ -37,7 +37,7 @@ served_again c first again s m t records out lacks h k =
     let left : answer.Serves (IsStep s c) (Err Memory) s m records = subst (λ (r : Ended). answer.Serves (IsStep s c) r s m records) lacks h.serves in
     subst (λ (x : State). IsServed c again x t out) left.1 k
 
--- the same of an import
+-- and of an import
 pub imported_again : (force : Bool) (at : ℕ) (text : List ℕ) (first again : Ended) (s m n t : State) → first ≡ Err Memory → answer.ServesData (IsImportStep s force at text) first s m → n ≡ m
     → answer.ServesData (IsImportStep n force at text) again n t → answer.ServesData (IsImportStep s force at text) again s t
 imported_again force at text first again s m n t lacks h same k =

@@ -1,4 +1,4 @@
--- As which cells words, and as which commands lines are read.
+-- As what words and lines are read: cells and rectangles of any size, and commands.
 use Rattle.std.specs.Prelude.{◌≡◌, ◌⊎◌, ◌-◌, ◌<◌, ℕ, Bool, true, false, List, [], ◌∷◌, ◌++◌, length, filter, filter_map, Some}
 use Rattle.wi_values.specs.AddressReading.{read_address, read_rect}
 use Rattle.wi_scenarios.specs.Commands.Operands.{Cell, Corners}
