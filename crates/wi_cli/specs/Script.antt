@@ -25,7 +25,6 @@ module _ (line : Bytes) where
   abbrev pub Asks : ℕ → Type 0
   Asks n = IsWithin × ((force : Bool) × (at : Option Cell) × IsWritten line_text (form (Csv force at n [])))
 
-  -- Too long or not UTF-8 is Unreadable; of no form is Unknown.
   abbrev pub IsCommand : List Bytes → Option Command → Type 0
   IsCommand taken None = IsGood × (is_passed_over line_text ≡ true)
   IsCommand taken (Some Unreadable) = IsGood → ⊥

@@ -22,9 +22,10 @@ pub use Rattle.wi_parser.specs.Sheet.{Sheet}
 pub use Rattle.wi_parser.specs.declared.content.Content.TheVariants.{Constant}
 pub use Rattle.wi_reports.specs.Changes.{change_records}
 pub use Rattle.wi_reports.specs.Contents.{content_text}
-pub use Rattle.wi_reports.specs.Inner.Parts.{cell_compared, entry_text, number_text, pairs_at, row_shown, table_row, text_under}
+pub use Rattle.wi_reports.specs.Inner.Parts.{cell_compared, number_text, pairs_at, row_shown, table_row}
 pub use Rattle.wi_reports.specs.Looks.{Costs, beside_cases, both_cases, cells_cases, entries_cases, head_cases, rows_cases}
-pub use Rattle.wi_reports.specs.Table.{entries_beside}
+pub use Rattle.wi_reports.specs.Rows.{text_under}
+pub use Rattle.wi_reports.specs.Table.{entries_beside, entry_text}
 pub use Rattle.wi_sessions.specs.Pictures.{same_value, value_in}
 pub use Rattle.wi_sessions.specs.Pictures.Laws.{changes_among}
 pub use Rattle.wi_sheet.specs.Demand.{Case, demanded, wants}

@@ -7,7 +7,7 @@ ghost use Rattle.std.specs.Io.{StartsWith};
 ghost use Rattle.wi_values.specs.Address.{row_of, cells_of, cells_of_row, is_column};
 ghost use Rattle.wi_values.specs.Replacements.{IsInOrder};
 ghost use Rattle.wi_csv.specs.Row.{row};
-ghost use Rattle.wi_reports.specs.Inner.Parts.{entry_text, text_under};
+ghost use Rattle.wi_reports.specs.Rows.{text_under};
 ghost use Rattle.wi_reports.specs.Inner.Shape as shape;
 ghost use Rattle.wi_reports.specs.Table as spec;
 ghost use Rattle.wi_sheet.specs.TableEntry.{entry_demanded};
@@ -328,7 +328,7 @@ fn push_row_entries<C: Calculator>(
 ) -> Result<(), AllocError>
     requires { IsInOrder replacements.now }
     ensures texts { let sheet = (C.stored calculator.old).sheet in
-        let text = λ (y : ℕ). entry_text sheet replacements.now given.now.formula_cell
+        let text = λ (y : ℕ). spec.entry_text sheet replacements.now given.now.formula_cell
         (pairs_at given.now.input given.now.x given.now.second y) in
         OnOk result (map string_bytes texts.new.items
         ≡ map string_bytes texts.old.items ++ map text (cells_of_row (row_of cells.first) cells)) }
@@ -360,7 +360,7 @@ fn push_entry_at<C: Calculator>(
 ) -> Result<(), AllocError>
     requires { IsInOrder replacements.now }
     ensures text { let sheet = (C.stored calculator.old).sheet in
-        let text = entry_text sheet replacements.now given.now.formula_cell
+        let text = spec.entry_text sheet replacements.now given.now.formula_cell
         (pairs_at given.now.input given.now.x given.now.second y) in
         OnOk result (map string_bytes texts.new.items
         ≡ map string_bytes texts.old.items ++ text ∷ []) }
@@ -392,7 +392,7 @@ fn push_entry<C: Calculator>(
     texts: &mut Vec<String>,
 ) -> Result<(), AllocError>
     requires { IsInOrder replacements.now }
-    ensures text { let text = entry_text
+    ensures text { let text = spec.entry_text
         (C.stored calculator.old).sheet replacements.now formula_cell pairs.now in
         OnOk result (map string_bytes texts.new.items
         ≡ map string_bytes texts.old.items ++ text ∷ []) }

@@ -4,7 +4,7 @@ ghost use Rattle.std.specs.Prelude.{◌≡◌, ◌++◌, ◌∷◌, ◌<◌, [],
 ghost use Rattle.wi_values.specs.Address.{rows, cells_of_row, address_text};
 ghost use Rattle.wi_values.specs.Value.{shown_text};
 ghost use Rattle.wi_values.specs.Replacements.{IsInOrder};
-ghost use Rattle.wi_reports.specs.Inner.Parts.{text_under};
+ghost use Rattle.wi_reports.specs.Rows.{text_under};
 ghost use Rattle.wi_sheet.specs.Demand.{demanded};
 ghost use Rattle.wi_reports.specs.Looks.{Costs, cells_cases};
 

@@ -15,14 +15,10 @@ use Rattle.wi_fraction.specs.Text.{text_of}
 use Rattle.wi_values.specs.Value.{error_name}
 use Rattle.wi_values.specs.declared.value.ErrorKind.TheVariants.{BadNumber}
 use Rattle.wi_sessions.specs.Pictures.{same_value}
-use Rattle.wi_sheet.specs.TableEntry.{table_entry}
+use Rattle.wi_reports.specs.Rows.{text_under}
 use Rattle.wi_reports.specs.Changes.{kind_text}
 use Rattle.wi_reports.specs.Compare.{difference_text}
 use Rattle.wi_reports.specs.Table.{entries_beside}
-
--- the text that a cell shows under replacements
-abbrev pub text_under : Sheet → List Replacement → ℕ → List ℕ
-text_under sheet put c = shown_text (shown sheet put c)
 
 -- the text of a number, or `#NUM!` where there is none, as it doesn't fit
 abbrev pub number_text : Option Number → List ℕ
@@ -32,10 +28,6 @@ number_text o = option_map_or text_of o (error_name BadNumber)
 abbrev pub difference_record : ℕ → Value → Value → List ℕ
 difference_record a v w =
     if same_value v w then [] else row (address_text a ∷ shown_text v ∷ shown_text w ∷ difference_text v w ∷ [])
-
--- an entry of a table
-abbrev pub entry_text : Sheet → List Replacement → ℕ → List (ℕ × ℕ) → List ℕ
-entry_text sheet put f pairs = shown_text (table_entry sheet put f pairs)
 
 -- the record of one row of a rectangle
 abbrev pub row_shown : Sheet → List Replacement → Area → ℕ → List ℕ

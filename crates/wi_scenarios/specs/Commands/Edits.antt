@@ -40,7 +40,6 @@ copied down right None = Some None
 copied down right (Some (Constant v)) = Some (Some (Constant v))
 copied down right (Some (Formula t)) = option_map (λ u. Some (Formula u)) (shifted down right t)
 
--- a cell and what it gets: a content, or none
 abbrev pub Put : Type 0
 Put = ℕ × Option Content
 
