@@ -1,6 +1,11 @@
 -- What `fill` answers, and the copies that it makes.
 use Rattle.wi_scenarios.proofs.Words.{◌≡◌, ℕ, ◌+◌, Bool, true, false, not, ◌||◌, List, [], ◌∷◌, ◌++◌, map, Option, Some, Result, Err, refl, sym, ap, ◌∙◌, subst, ◌≤◌, ◌<◌, append_assoc, nat_lt, is_some, keys_of, list_any, flat_map, range_with_len, map-append, map-range_with_len_more, list_any-append, any_in_range, Area, place, size_of, cells_of, cells_of_row, Content, content_of, IsErrAnd, err_from_is_err_and, Refusal, Memory, TooLarge, State, max_area, may_grow, MayRefuse, Serves, Edit, edit_answer, shift_refusal, copy_to, has_no_copy, or_nothing, ShiftFault, AreCopies, CopiesAs, HasNoCopies, cells_in}
+use Rattle.std.specs.Prelude.{ℤ, None, option_map}
+use Rattle.wi_parser.specs.Shift.{ShiftsTo, shifted}
+use Rattle.wi_parser.specs.Tree.{Tree}
+use Rattle.wi_parser.specs.declared.content.Content.TheVariants.{Formula}
 use Rattle.wi_parser.specs.declared.shift.ShiftFault.TheVariants as shift
+use Rattle.wi_scenarios.specs.Commands.Edits.{copied}
 use Rattle.wi_scenarios.specs.Answer.{MayGrow}
 use Rattle.wi_scenarios.specs.Inner.Placed.{IsPlaced, IsSpanned}
 use Rattle.wi_scenarios.proofs.CommandWords.{Fill, cell, corners, IsStep}
@@ -109,3 +114,20 @@ pub lacks_copy : (found : Option (Option Content)) (r : Result (Option Content) 
 lacks_copy found r k =
     let p = err_from_is_err_and r k in
     subst (CopiesAs found) (sym p.1) (subst (λ (e : ShiftFault). CopiesAs found (Err e)) (sym p.2) tt)
+
+-- a formula's copy is what it is shifted to
+pub formula_copied : (content : Option Content) (t u : Tree) (down right d r : ℤ) → content ≡ Some (Formula t) → d ≡ down → r ≡ right → shifted d r t ≡ Some u → copied down right content ≡ Some (Some (Formula u))
+formula_copied content t u down right d r is p q h =
+    ap (copied down right) is
+    ∙ ap (option_map (λ (v : Tree). Some (Formula v))) (ap (λ (x : ℤ). shifted x right t) (sym p) ∙ ap (λ (x : ℤ). shifted d x t) (sym q) ∙ h)
+
+-- and there is none where it can't be shifted
+pub formula_not_copied : (content : Option Content) (t : Tree) (down right d r : ℤ) (fault : ShiftFault) (made : Result (Option Content) ShiftFault) → content ≡ Some (Formula t) → d ≡ down → r ≡ right → ShiftsTo (shifted d r t) (Err fault)
+    → IsErrAnd made (λ e. e ≡ fault) → CopiesAs (copied down right content) made
+formula_not_copied content t down right d r shift.LeavesSheet made is p q h k =
+    let same = err_from_is_err_and made k in
+    let none : copied down right content ≡ None =
+    ap (copied down right) is
+    ∙ ap (option_map (λ (v : Tree). Some (Formula v))) (ap (λ (x : ℤ). shifted x right t) (sym p) ∙ ap (λ (x : ℤ). shifted d x t) (sym q) ∙ h) in
+    subst (CopiesAs (copied down right content)) (sym same.1) (subst (λ (e : ShiftFault). CopiesAs (copied down right content) (Err e)) (sym same.2) none)
+formula_not_copied content t down right d r shift.Memory made is p q h k = lacks_copy (copied down right content) made k

@@ -1,5 +1,5 @@
-use Rattle.wi_scenarios.proofs.Words.{◌≡◌, None, ap, option_copied, rows_between, columns_between, copied}
-use Rattle.wi_scenarios.proofs.FillLemmas.{lacks_copy}
+use Rattle.wi_scenarios.proofs.Words.{◌≡◌, None, ap, rules, option_copied, rows_between, columns_between, copied}
+use Rattle.wi_scenarios.proofs.FillLemmas.{lacks_copy, formula_copied, formula_not_copied}
 use Rattle.wi_scenarios.proofs.fill.copied.Goals as goal
 
 pub returns-in-None : goal.returns-in-None
@@ -9,3 +9,13 @@ returns-in-None c =
 
 pub returns-in_err-copy-in-Some-Constant : goal.returns-in_err-copy-in-Some-Constant
 returns-in_err-copy-in-Some-Constant c = lacks_copy _ c.from_residual.result c.from_residual.ensures.1
+
+pub returns-in_err-shift-in-Some-Formula : goal.returns-in_err-shift-in-Some-Formula
+returns-in_err-shift-in-Some-Formula c =
+    formula_not_copied (option_copied c.args.content) c.in-Some-Formula.formula (rows_between c.args.from c.args.to) (columns_between c.args.from c.args.to) _ _ _ c.from_residual-in_err-shift-in-Some-Formula.result
+    (search rules) (search rules) (search rules) c.in_err-shift-in-Some-Formula.ensures c.from_residual-in_err-shift-in-Some-Formula.ensures.1
+
+pub returns-in_ok-shift-in-Some-Formula : goal.returns-in_ok-shift-in-Some-Formula
+returns-in_ok-shift-in-Some-Formula c =
+    formula_copied (option_copied c.args.content) c.in-Some-Formula.formula c.in_ok-shift-in-Some-Formula.field-0 (rows_between c.args.from c.args.to) (columns_between c.args.from c.args.to) _ _
+    (search rules) (search rules) (search rules) c.in_ok-shift-in-Some-Formula.ensures
