@@ -34,13 +34,12 @@ fn has_bad_field(records: &[Vec<Vec<u8>>]) -> bool
     ensures { result
         ≡ list_any (λ fields. list_any (λ f. is_bad f.items) fields.items) records.now }
 {
-    records.iter().any(|fields| is_one_bad(fields))
-}
-
-fn is_one_bad(fields: &[Vec<u8>]) -> bool
-    ensures { result ≡ list_any (λ f. is_bad f.items) fields.now }
-{
-    fields.iter().any(|field| is_bad(field))
+    for fields in records {
+        if fields.iter().any(|field| is_bad(field)) {
+            return true;
+        }
+    }
+    false
 }
 
 fn is_bad(field: &[u8]) -> bool
@@ -54,13 +53,12 @@ fn has_long_field(records: &[Vec<Vec<u8>>]) -> bool
     ensures { result
         ≡ list_any (λ fields. list_any (λ f. is_too_long f.items) fields.items) records.now }
 {
-    records.iter().any(|fields| is_one_too_long(fields))
-}
-
-fn is_one_too_long(fields: &[Vec<u8>]) -> bool
-    ensures { result ≡ list_any (λ f. is_too_long f.items) fields.now }
-{
-    fields.iter().any(|field| is_too_long(field))
+    for fields in records {
+        if fields.iter().any(|field| is_too_long(field)) {
+            return true;
+        }
+    }
+    false
 }
 
 /// Whether a field is too long for a text, and no number: only one of more bytes than a text may have is read.
