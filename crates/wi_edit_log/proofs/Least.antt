@@ -124,6 +124,6 @@ stale_is_first log es session since k areas o v e h =
     let rest : entries_in (drop k es) ≡ drop since log =
     ap (λ n. entries_in (drop n es)) e ∙ ap entries_in (drop_min since es) ∙ sym (drop-map entry_in since es) ∙ ap (drop since) v in
     let same : (a : ℕ) → is_wanted_of_others (drop k es) session areas a ≡ is_one_of (filter stale cells) a =
-    λ a. ap (λ ys. is_within_one areas a && list_any (λ (x : Entry). not (x.session == session) && is_within_one x.cells a) ys) rest
+    λ a. ap (λ ys. is_within_one areas a && list_any (λ (x : Entry). not (x.session == session) && is_within_one x.areas a) ys) rest
     ∙ sym (has-filter stale cells a ∙ ap (λ b. b && stale a) (cells_are areas a)) in
     only_first (is_one_of (filter stale cells)) o (reduce min (filter stale cells)) (same_first (is_wanted_of_others (drop k es) session areas) (is_one_of (filter stale cells)) o same h) (least (filter stale cells))

@@ -1,5 +1,5 @@
 -- The cells of a rectangle one after another, in row-major order.
-use Rattle.wi_edit_log.proofs.Words.{◌≡◌, ◌∙◌, ℕ, ◌==◌, ◌≤◌, ◌<◌, ◌⊎◌, inl, inr, Bool, true, false, ◌||◌, ◌&&◌, Option, Some, None, IfSome, refl, ap, sym, subst, arith, nat_lt, and_from, and_parts, both_ways, cases_eq, cases_lt, eq-eqb, eqb-true, le-ltb, lt-ltb, or_cases, or_left, or_right, one_truth, Area, is_within, fewer_places, places_left, within_between, within_from, IsAtOrBefore, IsFirst, is_after}
+use Rattle.wi_edit_log.proofs.Words.{◌≡◌, ◌∙◌, ℕ, ◌==◌, ◌≤◌, ◌<◌, ◌⊎◌, inl, inr, Bool, true, false, ◌||◌, ◌&&◌, Option, Some, None, IfSome, refl, ap, sym, subst, arith, nat_lt, and_from, and_parts, both_ways, cases_eq, cases_lt, eq-eqb, eqb-true, le-ltb, lt-ltb, or_cases, or_left, or_right, one_truth, Area, is_within, within_between, within_from, IsAtOrBefore, IsFirst}
 use Rattle.std.proofs.lemmas.Bool.{ltb-true}
 use Rattle.wi_values.specs.Address.{height, width}
 
@@ -14,6 +14,23 @@ first_of r tall wide = record { passes = within_itself r tall wide; least = λ a
 pub first_is : (r : Area) (at h w : ℕ) → at ≡ r.first → h ≡ height r → 0 < h → w ≡ width r → 0 < w → IsFirst (is_within r) (Some at)
 first_is r at h w e tall some wide more =
     subst (λ a. IsFirst (is_within r) (Some a)) (sym e) (first_of r (subst (λ n. 0 < n) tall some) (subst (λ n. 0 < n) wide more))
+
+-- ---- those after another
+
+-- the cell a is in the rectangle and comes after another, in row-major order
+abbrev pub is_after : Area → ℕ → ℕ → Bool
+is_after r at a = is_within r a && nat_lt at a
+
+pub next_is : (r : Area) (at : ℕ) (next : Option ℕ) → IfSome next (λ a. (at < a) × (a ≤ r.last)) → IfSome next (λ a. is_within r a ≡ true)
+    → ((a : ℕ) → is_within r a ≡ true → at < a → IsAtOrBefore next a) → IsFirst (is_after r at) next
+next_is r at next after within first = record {
+  passes = passes next after within;
+  least = λ a k. (let p = and_parts (is_within r a) (nat_lt at a) k in first a p.0 (ltb-true at a p.1));
+}
+  where
+    passes : (o : Option ℕ) → IfSome o (λ a. (at < a) × (a ≤ r.last)) → IfSome o (λ a. is_within r a ≡ true) → IfSome o (λ a. is_after r at a ≡ true)
+    passes None h k = tt
+    passes (Some b) h k = and_from (is_within r b) (nat_lt at b) k (lt-ltb at b h.0)
 
 -- ---- those before the one ahead
 
@@ -79,13 +96,6 @@ module _ (r : Area) (at : ℕ) (next : Option ℕ) (w : is_within r at ≡ true)
 
   pub all_within : IfSome next (λ a. is_within r a ≡ true)
   all_within = next_within next h.passes
-
-  next_between : (o : Option ℕ) → IfSome o (λ a. is_after r at a ≡ true) → IfSome o (λ a. (at < a) × (a ≤ r.last))
-  next_between None k = tt
-  next_between (Some b) k = let p = and_parts (is_within r b) (nat_lt at b) k in (ltb-true at b p.1, (within_between r b p.0).1)
-
-  pub fewer_left : places_left r next < places_left r (Some at)
-  fewer_left = fewer_places r at at next (omega arith) (within_between r at w).1 (next_between next h.passes)
 
 -- ---- a search for the first cell that is told
 

@@ -1,6 +1,6 @@
 -- What is noted of cells, one and many.
-use Rattle.wi_edit_log.proofs.Words.{◌≡◌, ◌∙◌, ℕ, ◌+◌, ◌==◌, ◌<◌, Bool, true, false, ◌||◌, ◌&&◌, List, length, take, get_or, Option, Some, None, IfSome, refl, ap, sym, if◌then◌else◌, eq-eqb, eqb-true, Area, is_within, is_within_one, IsFirst, is_after, NotesMore, before_of, last_after, last_of, Last, and-true}
-use Rattle.wi_edit_log.proofs.Next.{all_within, is_before, none_before, one_more_before}
+use Rattle.wi_edit_log.proofs.Words.{◌≡◌, ◌∙◌, ℕ, ◌+◌, ◌==◌, ◌<◌, Bool, true, false, ◌||◌, ◌&&◌, List, length, take, get_or, Option, Some, None, IfSome, refl, ap, sym, if◌then◌else◌, eq-eqb, eqb-true, Area, is_within, is_within_one, IsFirst, NotesMore, before_of, last_after, last_of, Last, and-true}
+use Rattle.wi_edit_log.proofs.Next.{all_within, is_after, is_before, none_before, one_more_before}
 use Rattle.wi_edit_log.proofs.Shared.{one_more_of}
 
 -- ---- what is noted twice of one edit

@@ -15,7 +15,7 @@ pub use Rattle.std.specs.List.Sorted.{IsNonDecreasingBy}
 pub use Rattle.std.specs.Prelude.{if◌then◌else◌, nat_le, nat_lt}
 pub use Rattle.wi_edit_log.specs.EditLog.{Entry, first_stale}
 pub use Rattle.wi_edit_log.specs.Inner.Edits.{AreCounted, AreInRuns, IsCount, IsInRun, entries_in, entry_in, is_named_by_others, is_wanted_of_others}
-pub use Rattle.wi_edit_log.specs.Inner.First.{IsAtOrBefore, IsFirst, in_both, in_each, in_one, is_after, is_stale}
+pub use Rattle.wi_edit_log.specs.Inner.First.{IsFirst, in_both, in_each, in_one, is_stale}
 pub use Rattle.wi_edit_log.specs.Inner.Narrow.{are_narrow}
 pub use Rattle.wi_edit_log.specs.Inner.Noted.{AreNoted, IsKept, NotesMore, before_of, is_named_narrowly, is_named_widely, is_noted_stale_of, is_wanted_narrowly, is_wanted_noted_stale, is_wanted_widely, last_after, last_of, names_for, names_narrowly, names_widely}
 pub use Rattle.wi_edit_log.specs.Inner.Rising.{are_rising, begins_from, rise_from}
@@ -25,4 +25,4 @@ pub use Rattle.wi_values.proofs.Listed.{has-filter}
 pub use Rattle.wi_values.proofs.Small.{any_in_range, max_at_most, max_below}
 pub use Rattle.wi_values.proofs.Within.{column_of_place, column_within, fewer_places, places_left, row_of_place, within_between, within_from, within_parts}
 pub use Rattle.wi_values.specs.Address.{Area, cells_of, cells_of_row, column_of, columns, is_one_of, is_within, is_within_one, place, row_of, rows}
-pub use Rattle.wi_values.specs.Inner.Cells.{sooner}
+pub use Rattle.wi_values.specs.Inner.Cells.{IsAtOrBefore, sooner}

@@ -1,8 +1,8 @@
-//! The cells of a rectangle, one after another.
+//! The first cell of a rectangle.
 
-ghost use Rattle.std.specs.Prelude.{◌≡◌, true, Some};
+ghost use Rattle.std.specs.Prelude.{Some};
 ghost use Rattle.wi_values.specs.Address.{is_within};
-ghost use Rattle.wi_edit_log.specs.Inner.First.{IsFirst, is_after};
+ghost use Rattle.wi_edit_log.specs.Inner.First.{IsFirst};
 
 use wi_values::{Address, Rect};
 
@@ -14,18 +14,4 @@ pub(crate) fn first_cell(area: Rect) -> Address
     let _ = area.height();
     let _ = area.width();
     area.first()
-}
-
-/// The cell after one of a rectangle, in row-major order, unless that is the last.
-pub(crate) fn cell_after(area: Rect, at: Address) -> Option<Address>
-    requires { is_within area at ≡ true }
-    ensures { IsFirst (is_after area at) result }
-{
-    if at.column() < area.last().column() {
-        return Some(Address::at(at.row(), at.column() + 1));
-    }
-    if at.row() < area.last().row() {
-        return Some(Address::at(at.row() + 1, area.first().column()));
-    }
-    None
 }

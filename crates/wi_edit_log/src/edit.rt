@@ -24,7 +24,7 @@ impl Edit {
     /// The edit that comes after those.
     pub(crate) fn after(edits: &[Edit], session: u32, named: Named) -> Edit
         requires { AreInRuns edits.now }
-        ensures entry { entry_in result ≡ record { session = session; cells = named } }
+        ensures entry { entry_in result ≡ record { session = session; areas = named } }
         ensures run { IsInRun edits.now (length edits.now) result }
     {
         let run = own_before(edits, session).saturating_add(1);

@@ -52,7 +52,7 @@ impl EditLog {
     /// Puts an edit at the end. On an error all is as before. The work grows with the rectangles.
     pub fn add(&mut self, session: u32, cells: Vec<Rect>) -> Result<(), AllocError>
         ensures ok { OnOk result (self.new
-            ≡ self.old ++ record { session = session; cells = cells.items } ∷ []) }
+            ≡ self.old ++ record { session = session; areas = cells.items } ∷ []) }
         ensures err { OnErr result (self.new ≡ self.old) }
     {
         let named = Named::new(cells)?;
@@ -63,7 +63,7 @@ impl EditLog {
     /// grow with the rectangles.
     pub fn add_named(&mut self, session: u32, named: Named) -> Result<(), AllocError>
         ensures ok { OnOk result (self.new
-            ≡ self.old ++ record { session = session; cells = named } ∷ []) }
+            ≡ self.old ++ record { session = session; areas = named } ∷ []) }
         ensures err { OnErr result (self.new ≡ self.old) }
     {
         let edit = Edit::after(&self.edits, session, named);

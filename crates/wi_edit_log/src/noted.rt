@@ -7,7 +7,7 @@ ghost use Rattle.wi_edit_log.specs.Inner.First.{IsFirst};
 ghost use Rattle.wi_edit_log.specs.Inner.Noted.{AreNoted, NotesEdit, NotesMore, after_others, is_noted_stale_in, is_wanted_noted_stale, last_after, last_of, is_noted_stale};
 ghost use Rattle.wi_edit_log.specs.declared.edit.Edit.{Edit};
 
-use crate::cells::{cell_after, first_cell};
+use crate::cells::first_cell;
 use crate::edit::{Edit, first_of_others, first_of_wide, run_after};
 use std::alloc::{AllocError, Global};
 use std::collections::HashMap;
@@ -125,7 +125,7 @@ impl Noted {
             if self.is_noted_stale(at, session, since) {
                 return Some(at);
             }
-            ahead = cell_after(area, at);
+            ahead = area.cell_after(at);
         }
         None
     }
@@ -211,7 +211,7 @@ fn note_area(notes: &mut Notes, area: Rect, session: u32, count: u32) -> Result<
     let mut ahead = Some(first_cell(area));
     while let Some(at) = ahead {
         note(notes, at, session, count)?;
-        ahead = cell_after(area, at);
+        ahead = area.cell_after(at);
     }
     Ok(())
 }

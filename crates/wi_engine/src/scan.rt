@@ -115,7 +115,7 @@ pub(crate) fn part(rectangle: Rect, way: Way, at: Address) -> Rect
 {
     let (first, last) = (rectangle.first(), rectangle.last());
     match way {
-        Way::Alone => Rect::new(at, at),
+        Way::Alone => Rect::of(at),
         Way::Row => Rect::new(
             Address::at(at.row(), first.column()),
             Address::at(at.row(), last.column()),

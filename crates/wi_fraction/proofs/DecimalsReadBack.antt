@@ -1,12 +1,12 @@
 -- The exact decimal of a number that is not negative reads back to it.
-use Rattle.wi_fraction.proofs.Vocabulary.{◌≡◌, ◌≢◌, ℕ, zero, suc, ◌*◌, ◌/◌, ◌%◌, ◌^◌, ◌<◌, ◌≤◌, ◌⊎◌, pos, false, List, [], ◌∷◌, ◌++◌, length, ◌==◌, Option, Some, None, unsigned_abs, refl, is_ascii_digit, decimal, ◌∣◌, prefix_len, AllDigits, IsNumeral, ap, ◌∙◌, sym, subst, inl, inr, arith, cases_lt, nat_tests, append-nil, take_all, dvd_of_mod-eq-zero, mod-eq-zero_of_dvd, take-append_seam, drop-append_seam, drop-length, pow-suc, pow-zero, one-dvd, mul_comm, mul_right_comm, mul-one, mul-le-mul_left, div-mul_cancel, eq-one_of_dvd-one, dvd_of_mul-dvd-mul_right, mul-dvd-mul, pos_of_dvd_of_pos, gcd, is_gcd, dvd_of_dvd-mul, DecimalsReadBack, number_at, signed, max_size, number_at-some, padded, size_text, read_after, read_decimal, decimal_after, point_after, scaled_after, places, decimal_text}
+use Rattle.wi_fraction.proofs.Vocabulary.{◌≡◌, ◌≢◌, ℕ, zero, suc, ◌*◌, ◌/◌, ◌%◌, ◌^◌, ◌<◌, ◌≤◌, ◌⊎◌, pos, false, List, [], ◌∷◌, ◌++◌, length, ◌==◌, Option, Some, None, unsigned_abs, refl, is_ascii_digit, decimal, ◌∣◌, prefix_len, AllDigits, IsNumeral, ap, ◌∙◌, sym, subst, inl, inr, arith, cases_lt, nat_tests, append-nil, take_all, dvd_of_mod-eq-zero, mod-eq-zero_of_dvd, take-append_seam, drop-append_seam, drop-length, pow-suc, pow-zero, one-dvd, mul_comm, mul_right_comm, mul-one, mul-le-mul_left, div-mul_cancel, eq-one_of_dvd-one, dvd_of_mul-dvd-mul_right, mul-dvd-mul, pos_of_dvd_of_pos, gcd, is_gcd, dvd_of_dvd-mul, DecimalsReadBack, number_at, with_minus, max_size, number_at-some, padded, size_text, read_after, read_decimal, decimal_after, point_after, scaled_after, places, decimal_text}
 use Rattle.wi_fraction.proofs.Divisors.{gcd_pos, coprime_divided, divided_dvd}
 use Rattle.wi_fraction.proofs.Numbers.{number_of-lowest}
 use Rattle.wi_fraction.proofs.Places.{all_divide, all_none, divides_one}
 use Rattle.wi_fraction.proofs.ReadsBack.{scan, is_numeral-true, numeral, div_small, read_places_text, read_whole_text}
 use Rattle.wi_fraction.proofs.Padded.{length-padded, digits_padded}
 use Rattle.wi_fraction.proofs.Scanning.{own}
-use Rattle.wi_fraction.proofs.Steps.{signed-abs}
+use Rattle.wi_fraction.proofs.Steps.{with_minus-abs}
 
 -- ---- a denominator of 128 bits that divides a power of ten divides ten to the power 126
 
@@ -93,5 +93,5 @@ pub decimals_read_back : DecimalsReadBack
 unfolding decimal_text
 decimals_read_back x (k, e) up =
     let some : places 126 x.den ≢ None = λ none. all_none x.den none (decimal_few k x.den x.is_number.above_zero x.is_number.den_fits e) in
-    let whole : pos (unsigned_abs x.num) ≡ x.num = subst (λ b. signed b (unsigned_abs x.num) ≡ x.num) up (signed-abs x.num) in
+    let whole : pos (unsigned_abs x.num) ≡ x.num = subst (λ b. with_minus b (unsigned_abs x.num) ≡ x.num) up (with_minus-abs x.num) in
     rw up (read_back_text (unsigned_abs x.num) x.den (places 126 x.den) (all_divide x.den) some x.is_number.above_zero x.is_number.num_fits x.is_number.lowest) ∙ number_at-some _ x.den x (sym whole) refl

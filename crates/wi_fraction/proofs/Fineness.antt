@@ -1,23 +1,23 @@
 -- Fractions whose denominator is too large, and the tails of a decimal.
-use Rattle.wi_fraction.proofs.Vocabulary.{◌≡◌, ◌≢◌, ℕ, zero, suc, ◌+◌, ◌*◌, ◌/◌, ◌^◌, ◌<◌, ◌≤◌, pos, unsigned_abs, Bool, false, List, [], ◌∷◌, ◌++◌, length, drop, Some, None, refl, digit_value, ◌∣◌, digits_value, digits_value_after, AllDigits, ap, ◌∙◌, sym, inl, inr, arith, cases_lt, digits_value-lt, le-div, le_of_dvd, pow-suc, pow-zero, one-le-pow, div-mul_cancel, mul-le-mul_left, lt_of_mul-lt-mul_right, mul-add-mod_self_right, mul-div-mul_right, mul_right_comm, mul-one, dvd-mul_right_of_dvd, gcd, is_gcd, dvd_gcd_mul, Number, number_at, number_of, signed, max_size, number_at-some, number_at-is, decimal_value}
+use Rattle.wi_fraction.proofs.Vocabulary.{◌≡◌, ◌≢◌, ℕ, zero, suc, ◌+◌, ◌*◌, ◌/◌, ◌^◌, ◌<◌, ◌≤◌, pos, unsigned_abs, Bool, false, List, [], ◌∷◌, ◌++◌, length, drop, Some, None, refl, digit_value, ◌∣◌, digits_value, digits_value_after, AllDigits, ap, ◌∙◌, sym, inl, inr, arith, cases_lt, digits_value-lt, le-div, le_of_dvd, pow-suc, pow-zero, one-le-pow, div-mul_cancel, mul-le-mul_left, lt_of_mul-lt-mul_right, mul-add-mod_self_right, mul-div-mul_right, mul_right_comm, mul-one, dvd-mul_right_of_dvd, gcd, is_gcd, dvd_gcd_mul, Number, number_at, number_of, with_minus, max_size, number_at-some, number_at-is, decimal_value}
 use Rattle.wi_fraction.proofs.Divisors.{gcd_pos, gcd_step, gcd_scaled, coprime_divided, div_gcd_pos}
-use Rattle.wi_fraction.proofs.Numbers.{abs-signed, number_of-signed, number_at-too_large}
+use Rattle.wi_fraction.proofs.Numbers.{abs-with_minus, number_of-with_minus, number_at-too_large}
 
 -- the denominator of n/d in lowest terms is too large
 abbrev pub IsTooFine : ℕ → ℕ → Type 0
 IsTooFine n d = max_size < d / gcd n d
 
-pub none_from_fine : (s : Bool) (n d : ℕ) → IsTooFine n d → None ≡ number_of (signed s n) d
-none_from_fine s n d h = number_at-too_large s (n / gcd n d) (d / gcd n d) (inr h) ∙ number_of-signed s n d
+pub none_from_fine : (s : Bool) (n d : ℕ) → IsTooFine n d → None ≡ number_of (with_minus s n) d
+none_from_fine s n d h = number_at-too_large s (n / gcd n d) (d / gcd n d) (inr h) ∙ number_of-with_minus s n d
 
-number_at-fits : (s : Bool) (n d : ℕ) → 0 < d → gcd n d ≡ 1 → n ≤ max_size → d ≤ max_size → number_at (signed s n) d ≢ None
+number_at-fits : (s : Bool) (n d : ℕ) → 0 < d → gcd n d ≡ 1 → n ≤ max_size → d ≤ max_size → number_at (with_minus s n) d ≢ None
 number_at-fits s n d dp one nm dm e =
-    let x : Number = record { num = signed s n; den = d; is_number = record { above_zero = dp; lowest = rw (abs-signed s n) one; num_fits = rw (abs-signed s n) nm; den_fits = dm } } in
-    let some : number_at (signed s n) d ≡ Some x = number_at-some (signed s n) d x refl refl in
+    let x : Number = record { num = with_minus s n; den = d; is_number = record { above_zero = dp; lowest = rw (abs-with_minus s n) one; num_fits = rw (abs-with_minus s n) nm; den_fits = dm } } in
+    let some : number_at (with_minus s n) d ≡ Some x = number_at-some (with_minus s n) d x refl refl in
     cc
 
 -- a fraction below one that is no number is too fine
-pub fine_from_none : (s : Bool) (n d : ℕ) → n < d → None ≡ number_of (signed s n) d → IsTooFine n d
+pub fine_from_none : (s : Bool) (n d : ℕ) → n < d → None ≡ number_of (with_minus s n) d → IsTooFine n d
 fine_from_none s n d below none =
     let dp : 0 < d = omega arith in
     let num : n / gcd n d * gcd n d ≡ n = div-mul_cancel (gcd n d) (is_gcd n d).0 in
@@ -25,7 +25,7 @@ fine_from_none s n d below none =
     let less : n / gcd n d < d / gcd n d = lt_of_mul-lt-mul_right (gcd n d) (rw (num, den) below) in
     elim (cases_lt max_size (d / gcd n d)) [
       | inl h ↦ h
-      | inr h ↦ absurd (number_at-fits s (n / gcd n d) (d / gcd n d) (div_gcd_pos n d dp) (coprime_divided n d dp) (omega arith) h (number_of-signed s n d ∙ sym none))
+      | inr h ↦ absurd (number_at-fits s (n / gcd n d) (d / gcd n d) (div_gcd_pos n d dp) (coprime_divided n d dp) (omega arith) h (number_of-with_minus s n d ∙ sym none))
     ]
 
 -- a whole number more leaves the denominator as it is
@@ -99,14 +99,14 @@ tail_from_none ds all e = fine_from_none false (digits_value 10 ds) (10 ^ length
 
 -- ---- the step from one tail to the next
 
-pub number_of-multiplied : (s : Bool) (n d m : ℕ) → 0 < m → number_of (signed s (n * m)) (d * m) ≡ number_of (signed s n) d
+pub number_of-multiplied : (s : Bool) (n d m : ℕ) → 0 < m → number_of (with_minus s (n * m)) (d * m) ≡ number_of (with_minus s n) d
 number_of-multiplied s n d m mp =
-    sym (number_of-signed s (n * m) (d * m)) ∙ rw (gcd_scaled n d m, mul-div-mul_right n (gcd n d) mp, mul-div-mul_right d (gcd n d) mp) (number_of-signed s n d)
+    sym (number_of-with_minus s (n * m) (d * m)) ∙ rw (gcd_scaled n d m, mul-div-mul_right n (gcd n d) mp, mul-div-mul_right d (gcd n d) mp) (number_of-with_minus s n d)
 
-parts_of : (s : Bool) (n d : ℕ) (x : Number) → Some x ≡ number_of (signed s n) d → (unsigned_abs x.num * gcd n d ≡ n) × (x.den * gcd n d ≡ d)
+parts_of : (s : Bool) (n d : ℕ) (x : Number) → Some x ≡ number_of (with_minus s n) d → (unsigned_abs x.num * gcd n d ≡ n) × (x.den * gcd n d ≡ d)
 parts_of s n d x e =
-    let is = number_at-is _ _ x (number_of-signed s n d ∙ sym e) in
-    (rw (is.0, abs-signed s (n / gcd n d)) (div-mul_cancel (gcd n d) (is_gcd n d).0), rw is.1 (div-mul_cancel (gcd n d) (is_gcd n d).1))
+    let is = number_at-is _ _ x (number_of-with_minus s n d ∙ sym e) in
+    (rw (is.0, abs-with_minus s (n / gcd n d)) (div-mul_cancel (gcd n d) (is_gcd n d).0), rw is.1 (div-mul_cancel (gcd n d) (is_gcd n d).1))
 
 -- of a tail below one the numerator is below the denominator
 pub tail_below_one : (ds : List ℕ) (x : Number) → AllDigits 10 ds → Some x ≡ decimal_value false [] ds → unsigned_abs x.num < x.den
@@ -114,7 +114,7 @@ tail_below_one ds x all e =
     let p = parts_of false (digits_value 10 ds) (10 ^ length ds) x e in
     lt_of_mul-lt-mul_right (gcd (digits_value 10 ds) (10 ^ length ds)) (rw (p.0, p.1) (digits_value-lt 10 ds all))
 
-pub step_value : (s t : Bool) (c k n d : ℕ) (x : Number) → 0 < d → Some x ≡ number_of (signed s n) d → number_of (signed t (c * x.den + unsigned_abs x.num)) (x.den * k) ≡ number_of (signed t (c * d + n)) (d * k)
+pub step_value : (s t : Bool) (c k n d : ℕ) (x : Number) → 0 < d → Some x ≡ number_of (with_minus s n) d → number_of (with_minus t (c * x.den + unsigned_abs x.num)) (x.den * k) ≡ number_of (with_minus t (c * d + n)) (d * k)
 step_value s t c k n d x dp e =
     let p = parts_of s n d x e in
     let g = gcd n d in
@@ -127,7 +127,7 @@ pub tail_more : (c : ℕ) (ds : List ℕ) (x : Number) → Some x ≡ decimal_va
 tail_more c ds x e = step_value false false (digit_value c) 10 (digits_value 10 ds) (10 ^ length ds) x (ten_pow_pos (length ds)) e ∙ rw (value_cons c ds, pow-suc 10 (length ds)) refl
 
 -- a whole part before a tail
-pub tail_whole : (s : Bool) (whole ds : List ℕ) (x : Number) → Some x ≡ decimal_value false [] ds → number_of (signed s (digits_value 10 whole * x.den + unsigned_abs x.num)) x.den ≡ decimal_value s whole ds
+pub tail_whole : (s : Bool) (whole ds : List ℕ) (x : Number) → Some x ≡ decimal_value false [] ds → number_of (with_minus s (digits_value 10 whole * x.den + unsigned_abs x.num)) x.den ≡ decimal_value s whole ds
 tail_whole s whole ds x e =
     let step = step_value false s (digits_value 10 whole) 1 (digits_value 10 ds) (10 ^ length ds) x (ten_pow_pos (length ds)) e in
     rw (value_append whole ds) (rw (mul-one x.den, mul-one (10 ^ length ds)) at step)

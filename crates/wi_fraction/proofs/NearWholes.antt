@@ -1,7 +1,7 @@
 -- Whole numbers near a number are numbers, and so is the number with the other sign.
-use Rattle.wi_fraction.proofs.Vocabulary.{◌≡◌, ℕ, ◌+◌, ◌-◌, ◌*◌, ◌<◌, ◌≤◌, ℤ, pos, negsuc, neg_ℤ, unsigned_abs, int_lt, Bool, true, false, Option, Some, unwrap_or, refl, sym, ap, ◌∙◌, arith, mul-le-mul_left, div-lt_iff_lt-mul, div-le_self, Mode, HalfAway, Away, Toward, negated, gcd-one, Number, IsNumber, number_at, number_of, signed, max_size, abs-neg, number_at-some, floored, int_div_euclid, rounded, rounded_size}
+use Rattle.wi_fraction.proofs.Vocabulary.{◌≡◌, ℕ, ◌+◌, ◌-◌, ◌*◌, ◌<◌, ◌≤◌, ℤ, pos, negsuc, neg_ℤ, unsigned_abs, int_lt, Bool, true, false, Option, Some, unwrap_or, refl, sym, ap, ◌∙◌, arith, mul-le-mul_left, div-lt_iff_lt-mul, div-le_self, Mode, HalfAway, Away, Toward, negated, gcd-one, Number, IsNumber, number_at, number_of, with_minus, max_size, abs-neg, number_at-some, floored, int_div_euclid, rounded, rounded_size}
 use Rattle.wi_fraction.proofs.Numbers.{number_of-lowest}
-use Rattle.wi_fraction.proofs.Steps.{signed-abs}
+use Rattle.wi_fraction.proofs.Steps.{with_minus-abs}
 
 -- the floor of n/d
 abbrev pub floor_of : ℤ → ℕ → ℤ
@@ -24,10 +24,10 @@ rounded_below Away n d dp =
     omega (arith, below)
 rounded_below Toward n d dp = div-le_self n d
 
-pub abs-signed-le : (x : Number) (k : ℕ) → k ≤ unsigned_abs x.num → unsigned_abs (signed (int_lt x.num (pos 0)) k) ≤ max_size
-abs-signed-le x k h = by_case (int_lt x.num (pos 0))
+pub abs-with_minus-le : (x : Number) (k : ℕ) → k ≤ unsigned_abs x.num → unsigned_abs (with_minus (int_lt x.num (pos 0)) k) ≤ max_size
+abs-with_minus-le x k h = by_case (int_lt x.num (pos 0))
   where
-    by_case : (b : Bool) → unsigned_abs (signed b k) ≤ max_size
+    by_case : (b : Bool) → unsigned_abs (with_minus b k) ≤ max_size
     by_case true = rw (abs-neg (pos k)) (omega (arith, h, x.is_number.num_fits))
     by_case false = omega (arith, h, x.is_number.num_fits)
 
@@ -40,9 +40,9 @@ whole_is z h = record { above_zero = omega arith; lowest = gcd-one (unsigned_abs
 -- a number is in lowest terms
 pub of_parts : (x : Number) → number_of x.num x.den ≡ Some x
 of_parts x =
-    ap (λ (n : ℤ). number_of n x.den) (sym (signed-abs x.num))
+    ap (λ (n : ℤ). number_of n x.den) (sym (with_minus-abs x.num))
     ∙ number_of-lowest (int_lt x.num (pos 0)) (unsigned_abs x.num) x.den x.is_number.lowest
-    ∙ ap (λ (n : ℤ). number_at n x.den) (signed-abs x.num)
+    ∙ ap (λ (n : ℤ). number_at n x.den) (with_minus-abs x.num)
     ∙ number_at-some x.num x.den x refl refl
 
 there : (x y : Number) → unwrap_or (number_of x.num x.den) y ≡ x
@@ -77,9 +77,9 @@ floored_is x = there (floor_number x) x
 
 abbrev pub rounded_number : Mode → Number → Number
 rounded_number m x = record {
-  num = signed (int_lt x.num (pos 0)) (rounded_size m (unsigned_abs x.num) x.den);
+  num = with_minus (int_lt x.num (pos 0)) (rounded_size m (unsigned_abs x.num) x.den);
   den = 1;
-  is_number = whole_is _ (abs-signed-le x _ (rounded_below m (unsigned_abs x.num) x.den x.is_number.above_zero));
+  is_number = whole_is _ (abs-with_minus-le x _ (rounded_below m (unsigned_abs x.num) x.den x.is_number.above_zero));
 }
 
 pub rounded_is : (m : Mode) (x : Number) → rounded m x ≡ rounded_number m x

@@ -1,5 +1,5 @@
 -- The floor is the greatest whole number that is not above, and what each mode rounds to.
-use Rattle.wi_fraction.proofs.Vocabulary.{◌≡◌, ℕ, suc, ◌+◌, ◌-◌, ◌*◌, ◌/◌, ◌<◌, ◌≤◌, ℤ, pos, negsuc, neg_ℤ, ◌*ℤ◌, ◌≤ℤ◌, unsigned_abs, int_lt, nat_lt, false, refl, sym, ap, ◌∙◌, subst, inl, inr, arith, cases_lt, nat_tests, ints, div-mul-le_self, lt-div-mul-add, div-lt_iff_lt-mul, le-div_iff_mul-le, mul-le-mul_right, mul-pos, Mode, HalfAway, Away, Toward, NotAbove, NotBelow, distance, IsGreatestNotAbove, IsLeastNotBelow, IsNearest, HasFloor, IsRounded, Number, signed, abs-neg, rounded, rounded_size}
+use Rattle.wi_fraction.proofs.Vocabulary.{◌≡◌, ℕ, suc, ◌+◌, ◌-◌, ◌*◌, ◌/◌, ◌<◌, ◌≤◌, ℤ, pos, negsuc, neg_ℤ, ◌*ℤ◌, ◌≤ℤ◌, unsigned_abs, int_lt, nat_lt, false, refl, sym, ap, ◌∙◌, subst, inl, inr, arith, cases_lt, nat_tests, ints, div-mul-le_self, lt-div-mul-add, div-lt_iff_lt-mul, le-div_iff_mul-le, mul-le-mul_right, mul-pos, Mode, HalfAway, Away, Toward, NotAbove, NotBelow, distance, IsGreatestNotAbove, IsLeastNotBelow, IsNearest, HasFloor, IsRounded, Number, with_minus, abs-neg, rounded, rounded_size}
 use Rattle.wi_fraction.proofs.NearWholes.{floor_of, rounded_below, floored_is, rounded_is}
 use Rattle.wi_fraction.proofs.Values.{neg-neg, neg-mul}
 
@@ -113,11 +113,11 @@ turned_near n y d h =
 
 -- ---- numbers of either sign
 
-signed_up : (n : ℤ) (k : ℕ) → pos 0 ≤ℤ n → pos k ≡ signed (int_lt n (pos 0)) k
+signed_up : (n : ℤ) (k : ℕ) → pos 0 ≤ℤ n → pos k ≡ with_minus (int_lt n (pos 0)) k
 signed_up (pos n) k h = let e : nat_lt n 0 ≡ false = grind (arith, nat_tests) in rw e refl
 signed_up (negsuc n) k h = absurd (omega (arith, ints))
 
-signed_down : (n : ℤ) (k : ℕ) → n ≤ℤ pos 0 → k ≤ unsigned_abs n → neg_ℤ (pos k) ≡ signed (int_lt n (pos 0)) k
+signed_down : (n : ℤ) (k : ℕ) → n ≤ℤ pos 0 → k ≤ unsigned_abs n → neg_ℤ (pos k) ≡ with_minus (int_lt n (pos 0)) k
 signed_down (pos n) k h l =
     let e : nat_lt n 0 ≡ false = grind (arith, nat_tests) in
     let none : k ≡ 0 = omega (arith, ints) in
@@ -134,13 +134,13 @@ size_down (negsuc n) h = refl
 
 -- what holds of the size of n/d and of what it is rounded to holds of both with their sign
 module _ (P : ℤ → ℤ → Type 0) (m : Mode) (n : ℤ) (d : ℕ) where
-  upward : pos 0 ≤ℤ n → P (pos (unsigned_abs n)) (pos (rounded_size m (unsigned_abs n) d)) → P n (signed (int_lt n (pos 0)) (rounded_size m (unsigned_abs n) d))
+  upward : pos 0 ≤ℤ n → P (pos (unsigned_abs n)) (pos (rounded_size m (unsigned_abs n) d)) → P n (with_minus (int_lt n (pos 0)) (rounded_size m (unsigned_abs n) d))
   upward h p = subst (λ y. P n y) (signed_up n _ h) (subst (λ z. P z (pos (rounded_size m (unsigned_abs n) d))) (size_up n h) p)
 
-  downward : 0 < d → n ≤ℤ pos 0 → P (neg_ℤ (pos (unsigned_abs n))) (neg_ℤ (pos (rounded_size m (unsigned_abs n) d))) → P n (signed (int_lt n (pos 0)) (rounded_size m (unsigned_abs n) d))
+  downward : 0 < d → n ≤ℤ pos 0 → P (neg_ℤ (pos (unsigned_abs n))) (neg_ℤ (pos (rounded_size m (unsigned_abs n) d))) → P n (with_minus (int_lt n (pos 0)) (rounded_size m (unsigned_abs n) d))
   downward dp h p = subst (λ y. P n y) (signed_down n _ h (rounded_below m (unsigned_abs n) d dp)) (subst (λ z. P z (neg_ℤ (pos (rounded_size m (unsigned_abs n) d)))) (size_down n h) p)
 
-near : (n : ℤ) (d : ℕ) → 0 < d → IsNearest n d (signed (int_lt n (pos 0)) (rounded_size HalfAway (unsigned_abs n) d))
+near : (n : ℤ) (d : ℕ) → 0 < d → IsNearest n d (with_minus (int_lt n (pos 0)) (rounded_size HalfAway (unsigned_abs n) d))
 near (pos n) d dp = upward (λ z y. IsNearest z d y) HalfAway (pos n) d (omega (arith, ints)) (nearest_half n d dp)
 near (negsuc n) d dp = downward (λ z y. IsNearest z d y) HalfAway (negsuc n) d dp (omega (arith, ints)) (turned_near _ _ d (nearest_half (suc n) d dp))
 
@@ -158,5 +158,5 @@ is_rounded x =
       toward_upward = λ h. to Toward (λ y. IsLeastNotBelow x.num d y) (downward (λ z y. IsLeastNotBelow z d y) Toward x.num d dp h (turned_up _ _ d (floor_is (pos n) d dp)));
     }
   where
-    to : (m : Mode) (P : ℤ → Type 0) → P (signed (int_lt x.num (pos 0)) (rounded_size m (unsigned_abs x.num) x.den)) → P (rounded m x).num
+    to : (m : Mode) (P : ℤ → Type 0) → P (with_minus (int_lt x.num (pos 0)) (rounded_size m (unsigned_abs x.num) x.den)) → P (rounded m x).num
     to m P h = subst (λ (y : Number). P y.num) (sym (rounded_is m x)) h

@@ -1,5 +1,5 @@
 -- Powers of lowest terms, and powers that are too large.
-use Rattle.wi_fraction.proofs.Vocabulary.{◌≡◌, ℕ, zero, suc, ◌%◌, ◌^◌, ◌<◌, ◌≤◌, ℤ, pos, negsuc, unsigned_abs, Bool, true, false, ◌&&◌, nat_le, nat_lt, int_lt, ◌≢◌, ◌==◌, Option, Some, None, refl, int_pow, arith, ap, sym, ◌∙◌, nat_tests, pow-suc, pow-zero, one-le-pow, pow-le-pow_left, pow-le-pow_right, le_trans, int_eq, gcd-one, gcd, Number, number_of, number_at, max_size, signed, fraction_of, bounded, power_of, gcd_comm}
+use Rattle.wi_fraction.proofs.Vocabulary.{◌≡◌, ℕ, zero, suc, ◌%◌, ◌^◌, ◌<◌, ◌≤◌, ℤ, pos, negsuc, unsigned_abs, Bool, true, false, ◌&&◌, nat_le, nat_lt, int_lt, ◌≢◌, ◌==◌, Option, Some, None, refl, int_pow, arith, ap, sym, ◌∙◌, nat_tests, pow-suc, pow-zero, one-le-pow, pow-le-pow_left, pow-le-pow_right, le_trans, int_eq, gcd-one, gcd, Number, number_of, number_at, max_size, with_minus, fraction_of, bounded, power_of, gcd_comm}
 use Rattle.wi_fraction.proofs.Divisors.{coprime_mul}
 use Rattle.wi_fraction.proofs.Numbers.{number_of-lowest}
 
@@ -11,7 +11,7 @@ pub coprime_pow : (a b k : ℕ) → gcd a b ≡ 1 → gcd (a ^ k) (b ^ k) ≡ 1
 coprime_pow a b k h = coprime_pow_right (a ^ k) b k (gcd_comm (a ^ k) b ∙ coprime_pow_right b a k (gcd_comm b a ∙ h))
 
 -- a power of lowest terms is in lowest terms
-pub power_at : (s : Bool) (a b k : ℕ) → gcd a b ≡ 1 → number_at (signed s (a ^ k)) (b ^ k) ≡ number_of (signed s (a ^ k)) (b ^ k)
+pub power_at : (s : Bool) (a b k : ℕ) → gcd a b ≡ 1 → number_at (with_minus s (a ^ k)) (b ^ k) ≡ number_of (with_minus s (a ^ k)) (b ^ k)
 power_at s a b k h = sym (number_of-lowest s (a ^ k) (b ^ k) (coprime_pow a b k h))
 
 one_pow : (k : ℕ) → 1 ^ k ≡ 1
@@ -40,19 +40,19 @@ pow_too_large a k h f =
     let no : nat_le (a ^ k) max_size ≡ false = grind (arith, nat_tests, large) in
     rw no
 
-odd_sign : (n : ℤ) (k : ℕ) → int_pow n k ≡ signed (int_lt n (pos 0) && (k % 2 == 1)) (unsigned_abs n ^ k)
-odd_sign (pos a) k = let e : nat_lt a 0 ≡ false = grind (arith, nat_tests) in ap (λ b. signed b (a ^ k)) (sym (ap (λ b. b && (k % 2 == 1)) e))
+odd_sign : (n : ℤ) (k : ℕ) → int_pow n k ≡ with_minus (int_lt n (pos 0) && (k % 2 == 1)) (unsigned_abs n ^ k)
+odd_sign (pos a) k = let e : nat_lt a 0 ≡ false = grind (arith, nat_tests) in ap (λ b. with_minus b (a ^ k)) (sym (ap (λ b. b && (k % 2 == 1)) e))
 odd_sign (negsuc a) k = grind (arith, nat_tests)
 
-fraction_signed : (s : Bool) (n d : ℕ) → 0 < d → fraction_of (pos n) (signed s d) ≡ number_of (signed s n) d
+fraction_signed : (s : Bool) (n d : ℕ) → 0 < d → fraction_of (pos n) (with_minus s d) ≡ number_of (with_minus s n) d
 fraction_signed s n zero h = absurd (omega (arith, h))
 fraction_signed true n (suc d) h = refl
 fraction_signed false n (suc d) h = refl
 
-pub power_down : (x : Number) (k : ℕ) → 0 < unsigned_abs x.num → number_of (signed (int_lt x.num (pos 0) && (suc k % 2 == 1)) (x.den ^ suc k)) (unsigned_abs x.num ^ suc k) ≡ power_of x (negsuc k)
+pub power_down : (x : Number) (k : ℕ) → 0 < unsigned_abs x.num → number_of (with_minus (int_lt x.num (pos 0) && (suc k % 2 == 1)) (x.den ^ suc k)) (unsigned_abs x.num ^ suc k) ≡ power_of x (negsuc k)
 power_down x k h = sym (ap (λ n. fraction_of (pos (x.den ^ suc k)) n) (odd_sign x.num (suc k)) ∙ fraction_signed _ (x.den ^ suc k) (unsigned_abs x.num ^ suc k) (one-le-pow (suc k) (unsigned_abs x.num) h))
 
-pub power_below : (x : Number) (e : ℤ) → int_lt e (pos 0) ≡ true → 0 < unsigned_abs x.num → number_of (signed (int_lt x.num (pos 0) && (unsigned_abs e % 2 == 1)) (x.den ^ unsigned_abs e)) (unsigned_abs x.num ^ unsigned_abs e) ≡ power_of x e
+pub power_below : (x : Number) (e : ℤ) → int_lt e (pos 0) ≡ true → 0 < unsigned_abs x.num → number_of (with_minus (int_lt x.num (pos 0) && (unsigned_abs e % 2 == 1)) (x.den ^ unsigned_abs e)) (unsigned_abs x.num ^ unsigned_abs e) ≡ power_of x e
 power_below x (pos k) h f = absurd (grind (arith, nat_tests, h))
 power_below x (negsuc k) h f = power_down x k f
 
@@ -66,5 +66,5 @@ size_apart (pos zero) h = absurd (h refl)
 size_apart (pos (suc n)) h = omega arith
 size_apart (negsuc n) h = omega arith
 
-pub below_zero : (x : Number) (e : ℤ) (b : Bool) (k m : ℕ) (r : Option Number) → b ≡ (int_lt x.num (pos 0) && (k % 2 == 1)) → k ≡ unsigned_abs e → m ≡ unsigned_abs x.num → int_lt e (pos 0) ≡ true → x.num ≢ pos 0 → r ≡ number_of (signed b (x.den ^ k)) (m ^ k) → r ≡ power_of x e
+pub below_zero : (x : Number) (e : ℤ) (b : Bool) (k m : ℕ) (r : Option Number) → b ≡ (int_lt x.num (pos 0) && (k % 2 == 1)) → k ≡ unsigned_abs e → m ≡ unsigned_abs x.num → int_lt e (pos 0) ≡ true → x.num ≢ pos 0 → r ≡ number_of (with_minus b (x.den ^ k)) (m ^ k) → r ≡ power_of x e
 below_zero x e b k m r p q s lower apart h = h ∙ rw (p, q, s) (power_below x e lower (size_apart x.num apart))

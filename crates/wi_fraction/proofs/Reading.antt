@@ -1,5 +1,5 @@
 -- Reading digit by digit: a whole number from the first, a decimal from the last.
-use Rattle.wi_fraction.proofs.Vocabulary.{◌≡◌, ℕ, zero, suc, ◌+◌, ◌-◌, ◌*◌, ◌<◌, ◌≤◌, pos, unsigned_abs, Bool, false, List, [], ◌∷◌, length, drop, take, Option, Some, None, refl, ap, append-nil, pow-zero, digit_value, AllDigits, digits_value, ◌∙◌, sym, inl, arith, get_or, drop-cons, nat_tests, mul-le-mul_left, digits_value_more, digits_value-take-le, Number, number_at, number_of, signed, max_size, bounded, decimal_value, gcd}
+use Rattle.wi_fraction.proofs.Vocabulary.{◌≡◌, ℕ, zero, suc, ◌+◌, ◌-◌, ◌*◌, ◌<◌, ◌≤◌, pos, unsigned_abs, Bool, false, List, [], ◌∷◌, length, drop, take, Option, Some, None, refl, ap, append-nil, pow-zero, digit_value, AllDigits, digits_value, ◌∙◌, sym, inl, arith, get_or, drop-cons, nat_tests, mul-le-mul_left, digits_value_more, digits_value-take-le, Number, number_at, number_of, with_minus, max_size, bounded, decimal_value, gcd}
 use Rattle.wi_fraction.proofs.Steps.{bounded-some, bounded-none}
 use Rattle.wi_fraction.proofs.Fineness.{tail_more, tail_below_one, tail_from_none, tail_whole, fine_drop, none_from_tail, gcd_shifted}
 use Rattle.wi_fraction.proofs.Numbers.{number_of-lowest, number_of-whole, number_at-too_large}
@@ -48,11 +48,11 @@ whole_none ds i v w e h f k =
 
 -- ---- a whole number alone
 
-alone : (s : Bool) (whole : List ℕ) → number_at (signed s (digits_value 10 whole)) 1 ≡ decimal_value s whole []
+alone : (s : Bool) (whole : List ℕ) → number_at (with_minus s (digits_value 10 whole)) 1 ≡ decimal_value s whole []
 alone s whole = rw (append-nil whole, pow-zero 10) (number_of-whole s (digits_value 10 whole))
 
-pub alone_some : (s : Bool) (whole : List ℕ) (u : ℕ) (r : Option Number) → Some u ≡ bounded (digits_value 10 whole) → r ≡ number_at (signed s u) 1 → r ≡ decimal_value s whole []
-alone_some s whole u r e h = h ∙ ap (λ n. number_at (signed s n) 1) (bounded-some (digits_value 10 whole) u e).0 ∙ alone s whole
+pub alone_some : (s : Bool) (whole : List ℕ) (u : ℕ) (r : Option Number) → Some u ≡ bounded (digits_value 10 whole) → r ≡ number_at (with_minus s u) 1 → r ≡ decimal_value s whole []
+alone_some s whole u r e h = h ∙ ap (λ n. number_at (with_minus s n) 1) (bounded-some (digits_value 10 whole) u e).0 ∙ alone s whole
 
 pub alone_none : (s : Bool) (whole : List ℕ) → None ≡ bounded (digits_value 10 whole) → None ≡ decimal_value s whole []
 alone_none s whole e = number_at-too_large s (digits_value 10 whole) 1 (inl (bounded-none (digits_value 10 whole) e)) ∙ alone s whole
@@ -62,14 +62,14 @@ alone_none s whole e = number_at-too_large s (digits_value 10 whole) 1 (inl (bou
 shifted_lowest : (w : ℕ) (x : Number) → gcd (w * x.den + unsigned_abs x.num) x.den ≡ 1
 shifted_lowest w x = gcd_shifted w x.den (unsigned_abs x.num) ∙ x.is_number.lowest
 
-decimal_at : (s : Bool) (whole ds : List ℕ) (x : Number) → Some x ≡ decimal_value false [] ds → number_at (signed s (digits_value 10 whole * x.den + unsigned_abs x.num)) x.den ≡ decimal_value s whole ds
+decimal_at : (s : Bool) (whole ds : List ℕ) (x : Number) → Some x ≡ decimal_value false [] ds → number_at (with_minus s (digits_value 10 whole * x.den + unsigned_abs x.num)) x.den ≡ decimal_value s whole ds
 decimal_at s whole ds x e = sym (number_of-lowest s _ x.den (shifted_lowest (digits_value 10 whole) x)) ∙ tail_whole s whole ds x e
 
 -- with a whole part w the fraction is in lowest terms
 pub size_lowest : (w d n u : ℕ) (x : Number) → n ≡ unsigned_abs x.num → d ≡ x.den → Some u ≡ bounded (w * d + n) → gcd u d ≡ 1
 size_lowest w d n u x e f h = rw ((bounded-some (w * d + n) u h).0, e, f) (shifted_lowest w x)
 
-pub decimal_some : (s : Bool) (whole ds : List ℕ) (w d n u : ℕ) (x : Number) (r : Option Number) → Some x ≡ decimal_value false [] ds → w ≡ digits_value 10 whole → n ≡ unsigned_abs x.num → d ≡ x.den → Some u ≡ bounded (w * d + n) → r ≡ number_at (signed s u) d → r ≡ decimal_value s whole ds
+pub decimal_some : (s : Bool) (whole ds : List ℕ) (w d n u : ℕ) (x : Number) (r : Option Number) → Some x ≡ decimal_value false [] ds → w ≡ digits_value 10 whole → n ≡ unsigned_abs x.num → d ≡ x.den → Some u ≡ bounded (w * d + n) → r ≡ number_at (with_minus s u) d → r ≡ decimal_value s whole ds
 decimal_some s whole ds w d n u x r e f g h k m = m ∙ rw ((bounded-some (w * d + n) u k).0, f, g, h) (decimal_at s whole ds x e)
 
 decimal_too_large : (s : Bool) (whole ds : List ℕ) (x : Number) → Some x ≡ decimal_value false [] ds → max_size < digits_value 10 whole * x.den + unsigned_abs x.num → None ≡ decimal_value s whole ds

@@ -1,5 +1,5 @@
 -- A text is read as the fraction that it spells, and what is read spells one.
-use Rattle.wi_fraction.proofs.Vocabulary.{◌≡◌, ℕ, ◌<◌, ◌≤◌, ℤ, Bool, true, false, cond, not, ◌==◌, ◌&&◌, nat_lt, nat_le, List, [], ◌∷◌, ◌++◌, length, take, drop, slice_index, Some, None, refl, is_ascii_digit, prefix_len, IsNumeral, digits_value, sym, ap, ◌∙◌, subst, arith, eqb-true, nat_tests, append-nil, take-append-drop, length-prefix_len, ReadsWhatIsSpelled, Number, number_of, signed, max_size, SpellsSize, WritesDigits, plain, point, pointed, slash, SpellsFraction, spells, IsSign, no_sign, plus, minus, IsFractionText, is_numeral, decimal_value, read_quotient, read_after, read_size, read}
+use Rattle.wi_fraction.proofs.Vocabulary.{◌≡◌, ℕ, ◌<◌, ◌≤◌, ℤ, Bool, true, false, cond, not, ◌==◌, ◌&&◌, nat_lt, nat_le, List, [], ◌∷◌, ◌++◌, length, take, drop, slice_index, Some, None, refl, is_ascii_digit, prefix_len, IsNumeral, digits_value, sym, ap, ◌∙◌, subst, arith, eqb-true, nat_tests, append-nil, take-append-drop, length-prefix_len, ReadsWhatIsSpelled, Number, number_of, with_minus, max_size, SpellsSize, WritesDigits, plain, point, pointed, slash, SpellsFraction, spells, IsSign, no_sign, plus, minus, IsFractionText, is_numeral, decimal_value, read_quotient, read_after, read_size, read}
 use Rattle.std.specs.Prelude.{if◌then◌else◌}
 use Rattle.wi_fraction.proofs.ReadsBack.{first_digit, is_numeral-true, read_size_scanned, read_signed}
 use Rattle.wi_fraction.proofs.Scanning.{digits_before}
@@ -7,7 +7,7 @@ use Rattle.wi_fraction.proofs.Written.{some_if, some_then, numeral_from_test}
 
 -- ---- what is spelled is read
 
-quotient_value : (s : Bool) (n d : ℕ) → 0 < d → n ≤ max_size → d ≤ max_size → read_quotient s n d ≡ number_of (signed s n) d
+quotient_value : (s : Bool) (n d : ℕ) → 0 < d → n ≤ max_size → d ≤ max_size → read_quotient s n d ≡ number_of (with_minus s n) d
 quotient_value s n d dp nm dm =
     let t : (nat_lt 0 d && nat_le n max_size && nat_le d max_size) ≡ true = grind (arith, nat_tests) in
     rw t refl
@@ -17,7 +17,7 @@ unfolding read_after
 digits_read s text _ _ (plain ds h) _ = ap (read_size s) (sym (append-nil ds)) ∙ read_size_scanned s ds [] h refl
 digits_read s text _ _ (point ds es _ i) h = read_size_scanned s ds (46 ∷ es) h refl ∙ rw (is_numeral-true es i) refl
 
-size_value : (s : Bool) (text : List ℕ) (n d : ℕ) → SpellsSize text n d → read_size s text ≡ number_of (signed s n) d
+size_value : (s : Bool) (text : List ℕ) (n d : ℕ) → SpellsSize text n d → read_size s text ≡ number_of (with_minus s n) d
 unfolding read_after
 size_value s text n d (pointed front ds es w h) = digits_read s front ds es w h
 size_value s text n d (slash ds es h i some above below) = read_size_scanned s ds (47 ∷ es) h refl ∙ rw (is_numeral-true es i) (quotient_value s (digits_value 10 ds) (digits_value 10 es) some above below)
@@ -30,7 +30,7 @@ size_digit : (text : List ℕ) (n d : ℕ) → SpellsSize text n d → is_ascii_
 size_digit text n d (pointed front ds es w h) = digits_first front ds es w h
 size_digit text n d (slash ds es h i some above below) = first_digit ds (47 ∷ es) h
 
-signed_value : (sign : List ℕ) (s : Bool) → IsSign sign s → (size : List ℕ) (m k : ℕ) → SpellsSize size m k → read (sign ++ size) ≡ number_of (signed s m) k
+signed_value : (sign : List ℕ) (s : Bool) → IsSign sign s → (size : List ℕ) (m k : ℕ) → SpellsSize size m k → read (sign ++ size) ≡ number_of (with_minus s m) k
 unfolding read
 signed_value sign s no_sign size m k h = read_signed false size (size_digit size m k h) ∙ size_value false size m k h
 signed_value sign s plus size m k h = size_value false size m k h
@@ -48,7 +48,7 @@ quotient_spelled : (s : Bool) (ds es : List ℕ) (x : Number) → IsNumeral 10 d
 quotient_spelled s ds es x h i e =
     let n = digits_value 10 ds in
     let d = digits_value 10 es in
-    let t = (some_then (nat_lt 0 d && nat_le n max_size && nat_le d max_size) (number_of (signed s n) d) x e).0 in
+    let t = (some_then (nat_lt 0 d && nat_le n max_size && nat_le d max_size) (number_of (with_minus s n) d) x e).0 in
     let some : 0 < d = grind (arith, nat_tests, t) in
     let above : n ≤ max_size = grind (arith, nat_tests, t) in
     let below : d ≤ max_size = grind (arith, nat_tests, t) in

@@ -1,5 +1,5 @@
 -- The steps of the operations: what each helper gives, and how they join.
-use Rattle.wi_fraction.proofs.Vocabulary.{◌≡◌, ℕ, suc, ◌*◌, ◌/◌, ◌<◌, ◌≤◌, ℤ, pos, negsuc, ◌+ℤ◌, ◌*ℤ◌, neg_ℤ, unsigned_abs, Bool, false, Option, Some, None, refl, zero, ◌-ℤ◌, int_lt, nat_lt, w128, cast_signed as to_z, cast_unsigned as of_z, arith, ap, sym, ◌∙◌, ints, nat_tests, mul-pos, one-mul, div_self, div-le_self, dvd_refl, gcd, Number, number_of, max_size, signed, number_at, bounded, int_bounded, sum_by_steps, sum_of, gcd_comm, true, option_and_then, if◌then◌else◌, ◌&&◌, nat_le, gcd_from_IsGcd, number_at-some}
+use Rattle.wi_fraction.proofs.Vocabulary.{◌≡◌, ℕ, suc, ◌*◌, ◌/◌, ◌<◌, ◌≤◌, ℤ, pos, negsuc, ◌+ℤ◌, ◌*ℤ◌, neg_ℤ, unsigned_abs, Bool, false, Option, Some, None, refl, zero, ◌-ℤ◌, int_lt, nat_lt, w128, cast_signed as to_z, cast_unsigned as of_z, arith, ap, sym, ◌∙◌, ints, nat_tests, mul-pos, one-mul, div_self, div-le_self, dvd_refl, gcd, Number, number_of, max_size, with_minus, number_at, bounded, int_bounded, sum_by_steps, sum_of, gcd_comm, true, option_and_then, if◌then◌else◌, ◌&&◌, nat_le, gcd_from_IsGcd, number_at-some}
 use Rattle.wi_fraction.proofs.Divisors.{gcd_pos, div_gcd_pos, coprime_cross, cross_numerator, cross_denominator}
 use Rattle.wi_fraction.proofs.Numbers.{number_of-scaled, number_of-whole}
 
@@ -84,12 +84,12 @@ sum_no_total x y multiple first second e1 e2 e3 e4 =
 pub part_fits : (n m b q : ℕ) → Some m ≡ bounded n → q ≡ m / b → q ≤ max_size
 part_fits n m b q e f = let w = bounded-some n m e in omega (arith, f, div-le_self m b, w.0, w.1)
 
-pub signed-abs : (z : ℤ) → signed (int_lt z (pos 0)) (unsigned_abs z) ≡ z
-signed-abs (pos n) = let e : nat_lt n 0 ≡ false = grind (arith, nat_tests) in ap (λ b. signed b n) e
-signed-abs (negsuc n) = refl
+pub with_minus-abs : (z : ℤ) → with_minus (int_lt z (pos 0)) (unsigned_abs z) ≡ z
+with_minus-abs (pos n) = let e : nat_lt n 0 ≡ false = grind (arith, nat_tests) in ap (λ b. with_minus b n) e
+with_minus-abs (negsuc n) = refl
 
 -- a product is reduced before it is multiplied out
-pub cross_product : (s : Bool) (a b c d : ℕ) → 0 < b → 0 < d → gcd a b ≡ 1 → gcd c d ≡ 1 → number_at (signed s (a / gcd a d * (c / gcd c b))) (b / gcd c b * (d / gcd a d)) ≡ number_of (signed s (a * c)) (b * d)
+pub cross_product : (s : Bool) (a b c d : ℕ) → 0 < b → 0 < d → gcd a b ≡ 1 → gcd c d ≡ 1 → number_at (with_minus s (a / gcd a d * (c / gcd c b))) (b / gcd c b * (d / gcd a d)) ≡ number_of (with_minus s (a * c)) (b * d)
 cross_product s a b c d bp dp p q =
     let m : 0 < gcd a d * gcd c b = mul-pos (gcd_pos a d dp) (gcd_pos c b bp) in
     rw (cross_numerator a b c d, cross_denominator a b c d) (sym (number_of-scaled s _ _ _ m (coprime_cross a b c d bp dp p q)))
@@ -136,4 +136,4 @@ like_sum_none x y same e =
 -- a whole number is its own lowest terms
 pub whole_number_of : (z : ℤ) (x : Number) → x.num ≡ z → x.den ≡ 1 → Some x ≡ number_of z 1
 whole_number_of z x e f =
-    sym (number_at-some z 1 x e f) ∙ ap (λ k. number_at k 1) (sym (signed-abs z)) ∙ number_of-whole (int_lt z (pos 0)) (unsigned_abs z) ∙ ap (λ k. number_of k 1) (signed-abs z)
+    sym (number_at-some z 1 x e f) ∙ ap (λ k. number_at k 1) (sym (with_minus-abs z)) ∙ number_of-whole (int_lt z (pos 0)) (unsigned_abs z) ∙ ap (λ k. number_of k 1) (with_minus-abs z)

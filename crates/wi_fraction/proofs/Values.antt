@@ -2,7 +2,7 @@
 use Rattle.wi_fraction.proofs.Vocabulary.{◌≡◌, IfOk, Result, ok_or, ℕ, zero, suc, ◌*◌, ◌/◌, ◌<◌, ℤ, pos, negsuc, ◌+ℤ◌, ◌-ℤ◌, ◌*ℤ◌, neg_ℤ, unsigned_abs, int_div, Option, Some, None, refl, ◌∣◌, sym, ap, ◌∙◌, subst, arith, ints, mul_comm, mul_assoc, div-mul_cancel, dvd-mul_left, dvd-mul_right, Bool, true, false, cond, nat_le, option_and_then, ◌<ℤ◌, int_cmp, int_ranks, gcd, is_gcd, unsigned_abs-mul, same_lowest, IsExact, Number, number_of, max_size, number_at-some, number_at-is, negated, bounded, int_bounded, sum_by_steps, sum_of, product_of, quotient_of, fraction_of, mul-mul, neg-pos-mul, mul_below, int_irrefl, by_rank, turn}
 use Rattle.wi_fraction.proofs.Divisors.{gcd_pos, div_gcd_pos, coprime_divided}
 use Rattle.wi_fraction.proofs.NearWholes.{opposite, negated_is}
-use Rattle.wi_fraction.proofs.Numbers.{abs-signed}
+use Rattle.wi_fraction.proofs.Numbers.{abs-with_minus}
 use Rattle.wi_fraction.proofs.Steps.{bounded-some, multiple_pos, sum_steps}
 
 mul-suc : (z : ℤ) (k : ℕ) → z *ℤ pos (suc k) ≡ z *ℤ pos k +ℤ z
@@ -20,7 +20,7 @@ add-mul p q (suc k) = omega (arith, ints, mul-suc (p +ℤ q) k, mul-suc p k, mul
 
 abs-div : (n : ℤ) (g : ℕ) → unsigned_abs (int_div n (pos g)) ≡ unsigned_abs n / g
 abs-div (pos a) g = refl
-abs-div (negsuc a) g = abs-signed true (suc a / g)
+abs-div (negsuc a) g = abs-with_minus true (suc a / g)
 
 divided : (n : ℤ) (g : ℕ) → g ∣ unsigned_abs n → int_div n (pos g) *ℤ pos g ≡ n
 divided (pos a) g h = ap pos (div-mul_cancel g h)

@@ -45,7 +45,7 @@ unfoldable pub use Rattle.wi_fraction.specs.Inner.Reading.{decimal_after, expone
 pub use Rattle.wi_fraction.specs.Inner.Signs.{is_exponent_letter, sign_text}
 pub use Rattle.wi_fraction.specs.Inner.Words.{number_in}
 pub use Rattle.wi_fraction.specs.Laws.{DecimalsReadBack, HasFloor, IsExact, IsGreatestNotAbove, IsLeastNotBelow, IsNearest, IsRounded, NotAbove, NotBelow, ReadsBack, ReadsWhatIsSpelled, ReadsWhatIsWritten, ShowsFewestPlaces, distance}
-pub use Rattle.wi_fraction.specs.Number.{IsNumber, Number, max_size, number_at, signed}
+pub use Rattle.wi_fraction.specs.Number.{IsNumber, Number, max_size, number_at, with_minus}
 unfoldable pub use Rattle.wi_fraction.specs.Number.{number_of}
 pub use Rattle.wi_fraction.specs.Number.Laws.{abs-neg, number_at-is, number_at-none, number_at-some, same_number}
 pub use Rattle.wi_fraction.specs.Order.{cross_cmp}
@@ -55,6 +55,6 @@ pub use Rattle.wi_fraction.specs.Rounding.{rounded_size}
 unfoldable pub use Rattle.wi_fraction.specs.Rounding.{floored, rounded}
 pub use Rattle.wi_fraction.specs.Spelled.{IsFractionText, IsSign, SpellsFraction, SpellsSize, WritesDigits, minus, no_sign, plain, plus, point, pointed, slash, spells}
 unfoldable pub use Rattle.wi_fraction.specs.Text.{padded, places, size_text, text_of}
-pub use Rattle.wi_fraction.specs.Written.{IsDecimalText, Writes, WritesExponent, none, power, writes}
+pub use Rattle.wi_fraction.specs.Written.{IsDecimalText, WritesNumber, WritesExponent, none, power, writes}
 pub use Rattle.wi_fraction.specs.declared.rounding.Mode.{Mode}
 pub use Rattle.wi_fraction.specs.declared.rounding.Mode.TheVariants.{Away, HalfAway, Toward}

@@ -1,5 +1,5 @@
 -- A number token is read as the value of what it writes, and what is read writes a decimal.
-use Rattle.wi_fraction.proofs.Vocabulary.{◌≡◌, ℕ, suc, ◌+◌, ◌*◌, ◌^◌, ◌<◌, ℤ, pos, neg_ℤ, Bool, true, false, cond, not, ◌==◌, List, [], ◌∷◌, ◌++◌, length, take, drop, slice_index, Option, Some, None, refl, is_ascii_digit, prefix_len, all_ascii_digits, AllDigits, IsNumeral, digits_value, sym, ap, ◌∙◌, subst, arith, eqb-true, nat_tests, append-nil, take-append-drop, length-prefix_len, mul-one, pow-zero, take-append_seam, drop-append_seam, ReadsWhatIsWritten, Number, number_of, is_numeral, decimal_value, raised, lowered, with_exponent, exponent_after, scaled_after, point_after, decimal_after, read_decimal, is_exponent_letter, WritesDigits, WritesExponent, none, power, plain, point, Writes, writes, IsDecimalText, times_ten_to, signed, IsSign, no_sign, plus, minus, to_ascii_uppercase, pow-add, zero}
+use Rattle.wi_fraction.proofs.Vocabulary.{◌≡◌, ℕ, suc, ◌+◌, ◌*◌, ◌^◌, ◌<◌, ℤ, pos, neg_ℤ, Bool, true, false, cond, not, ◌==◌, List, [], ◌∷◌, ◌++◌, length, take, drop, slice_index, Option, Some, None, refl, is_ascii_digit, prefix_len, all_ascii_digits, AllDigits, IsNumeral, digits_value, sym, ap, ◌∙◌, subst, arith, eqb-true, nat_tests, append-nil, take-append-drop, length-prefix_len, mul-one, pow-zero, take-append_seam, drop-append_seam, ReadsWhatIsWritten, Number, number_of, is_numeral, decimal_value, raised, lowered, with_exponent, exponent_after, scaled_after, point_after, decimal_after, read_decimal, is_exponent_letter, WritesDigits, WritesExponent, none, power, plain, point, WritesNumber, writes, IsDecimalText, times_ten_to, with_minus, IsSign, no_sign, plus, minus, to_ascii_uppercase, pow-add, zero}
 use Rattle.std.specs.Prelude.{if◌then◌else◌}
 use Rattle.std.proofs.Common.{append_assoc}
 use Rattle.wi_fraction.proofs.DecimalsReadBack.{read_scanned, some_digits}
@@ -57,7 +57,7 @@ after_letter c more w p letter = rw letter refl
 abbrev scaled_by : List ℕ → List ℕ → ℤ → Option Number
 scaled_by w p k = times_ten_to k (pos (digits_value 10 (w ++ p))) (10 ^ length p)
 
-sign_value : (sign : List ℕ) (s : Bool) → IsSign sign s → (ds w p : List ℕ) → IsNumeral 10 ds → exponent_after w p (sign ++ ds) ≡ scaled_by w p (signed s (digits_value 10 ds))
+sign_value : (sign : List ℕ) (s : Bool) → IsSign sign s → (ds w p : List ℕ) → IsNumeral 10 ds → exponent_after w p (sign ++ ds) ≡ scaled_by w p (with_minus s (digits_value 10 ds))
 unfolding exponent_after
 sign_value sign s no_sign ds w p h = digits_exponent ds w p h
 sign_value sign s plus ds w p h = signed_exponent false ds w p h
@@ -81,7 +81,7 @@ digits_rest : (text w p : List ℕ) → WritesDigits text w p → (rest : List �
 digits_rest text w p (plain ds h) rest k e = read_scanned ds rest h.1 (no_digit rest k e) ∙ whole_rest ds rest k h e
 digits_rest text w p (point ds es h i) rest k e = ap read_decimal (append_assoc ds (46 ∷ es) rest) ∙ read_scanned ds (46 ∷ es ++ rest) h refl ∙ point_rest ds es rest i (no_digit rest k e)
 
-value : (text : List ℕ) (o : Option Number) → Writes text o → read_decimal text ≡ o
+value : (text : List ℕ) (o : Option Number) → WritesNumber text o → read_decimal text ≡ o
 value text _ (writes front rest w p k d e) = digits_rest front w p d rest k e ∙ exponent_value rest k e w p
 
 -- ---- what is read is written

@@ -2,7 +2,7 @@
 use Rattle.std.specs.Prelude.{ℕ, ◌+◌, ◌-◌, ◌*◌, ◌/◌, ℤ, pos, neg_ℤ, unsigned_abs, int_lt, nat_le, if◌then◌else◌, Option, None, unwrap_or}
 use Rattle.std.specs.Int.{int_div_euclid}
 use Rattle.wi_fraction.specs.declared.rounding.Mode.{Mode}
-use Rattle.wi_fraction.specs.Number.{Number, number_of, signed}
+use Rattle.wi_fraction.specs.Number.{Number, number_of, with_minus}
 use Rattle.wi_fraction.specs.Arithmetic.{◌>>=◌, times_ten_to}
 use Rattle.wi_fraction.specs.declared.rounding.Mode.TheVariants.{HalfAway, Away, Toward}
 
@@ -20,11 +20,11 @@ floored x = unwrap_or (number_of (int_div_euclid x.num (pos x.den)) 1) x
 
 -- it fits, as x does
 unfoldable pub rounded : Mode → Number → Number
-rounded m x = unwrap_or (number_of (signed (int_lt x.num (pos 0)) (rounded_size m (unsigned_abs x.num) x.den)) 1) x
+rounded m x = unwrap_or (number_of (with_minus (int_lt x.num (pos 0)) (rounded_size m (unsigned_abs x.num) x.den)) 1) x
 
 -- ---- places
 
--- at k places, at most 38 before or after the point
+-- at k places after the point, or -k before it, at most 38
 unfoldable pub round_to : Number → ℤ → Mode → Option Number
 round_to x k m =
     if nat_le (unsigned_abs k) 38

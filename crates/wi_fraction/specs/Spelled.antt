@@ -2,7 +2,7 @@
 use Rattle.std.specs.Prelude.{ℕ, ◌^◌, ◌<◌, ◌≤◌, ℤ, Bool, true, false, [], ◌∷◌, ◌++◌, length, codes}
 use Rattle.std.specs.Str.{byte}
 use Rattle.std.specs.Str.Parse.{AllDigits, IsNumeral, digits_value}
-use Rattle.wi_fraction.specs.Number.{max_size, signed}
+use Rattle.wi_fraction.specs.Number.{max_size, with_minus}
 use Rattle.wi_fraction.specs.Text.{Bytes}
 
 -- digits, and perhaps a point and digits after it
@@ -23,7 +23,7 @@ pub data IsSign : Bytes → Bool → Type 0 where
   minus : IsSign (codes "-") true
 
 pub data SpellsFraction : Bytes → ℤ → ℕ → Type 0 where
-  spells : (sign text : Bytes) (s : Bool) (n d : ℕ) → IsSign sign s → SpellsSize text n d → SpellsFraction (sign ++ text) (signed s n) d
+  spells : (sign text : Bytes) (s : Bool) (n d : ℕ) → IsSign sign s → SpellsSize text n d → SpellsFraction (sign ++ text) (with_minus s n) d
 
 -- The text spells a fraction.
 abbrev pub IsFractionText : Bytes → Type 0

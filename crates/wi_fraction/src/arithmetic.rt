@@ -3,7 +3,7 @@
 ghost use Rattle.std.specs.Prelude.{◌≡◌, ◌≢◌, ◌*◌, ◌<◌, ◌≤◌, pos, ◌+ℤ◌, ◌-ℤ◌, ◌*ℤ◌, ok_or, if◌then◌else◌, IfOk};
 ghost use Rattle.std.specs.Ordering.{int_eq};
 ghost use Rattle.wi_fraction.specs.Gcd.{gcd};
-ghost use Rattle.wi_fraction.specs.Number.{max_size, number_of, signed};
+ghost use Rattle.wi_fraction.specs.Number.{max_size, number_of, with_minus};
 ghost use Rattle.wi_fraction.specs.Arithmetic.{sum_of, product_of, quotient_of, negated, IsValue};
 ghost use Rattle.wi_fraction.specs.Inner.Bounds.{bounded, int_bounded};
 
@@ -174,7 +174,7 @@ pub(crate) fn multiplied(negative: bool, a: u128, b: u128, c: u128, d: u128) -> 
     requires second_above_zero { 0 < d }
     requires first_lowest { gcd a b ≡ 1 }
     requires second_lowest { gcd c d ≡ 1 }
-    ensures { result ≡ number_of (signed negative (a * c)) (b * d) }
+    ensures { result ≡ number_of (with_minus negative (a * c)) (b * d) }
 {
     if b == 1 && d == 1 {
         return whole_product(negative, a, c);
@@ -188,7 +188,7 @@ pub(crate) fn multiplied(negative: bool, a: u128, b: u128, c: u128, d: u128) -> 
 /// The product of two whole numbers with that sign.
 #[inline(always)]
 fn whole_product(negative: bool, a: u128, b: u128) -> Option<Fraction>
-    ensures { result ≡ number_of (signed negative (a * b)) 1 }
+    ensures { result ≡ number_of (with_minus negative (a * b)) 1 }
 {
     number_at(negative, product(a, b)?, 1)
 }
@@ -200,7 +200,7 @@ fn cancelled_product(negative: bool, a: u128, b: u128, c: u128, d: u128) -> Opti
     requires second_above_zero { 0 < d }
     requires first_lowest { gcd a b ≡ 1 }
     requires second_lowest { gcd c d ≡ 1 }
-    ensures { result ≡ number_of (signed negative (a * c)) (b * d) }
+    ensures { result ≡ number_of (with_minus negative (a * c)) (b * d) }
 {
     let outer = gcd(a, d);
     let inner = gcd(c, b);

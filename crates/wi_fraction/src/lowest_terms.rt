@@ -2,7 +2,7 @@
 
 ghost use Rattle.std.specs.Prelude.{◌≡◌, ◌<◌, ◌≤◌, unsigned_abs};
 ghost use Rattle.wi_fraction.specs.Gcd.{gcd};
-ghost use Rattle.wi_fraction.specs.Number.{max_size, number_at, number_of, signed};
+ghost use Rattle.wi_fraction.specs.Number.{max_size, number_at, number_of, with_minus};
 
 use crate::division::{divide, gcd};
 use crate::words::Parts;
@@ -20,7 +20,7 @@ impl Fraction {
 /// The number of that sign, size and denominator, in lowest terms.
 pub(crate) fn reduced(negative: bool, size: u128, denominator: u128) -> Option<Fraction>
     requires { 0 < denominator }
-    ensures { result ≡ number_of (signed negative size) denominator }
+    ensures { result ≡ number_of (with_minus negative size) denominator }
 {
     let common = gcd(size, denominator);
     number_at(negative, divide(size, common), divide(denominator, common))
@@ -30,13 +30,13 @@ pub(crate) fn reduced(negative: bool, size: u128, denominator: u128) -> Option<F
 pub(crate) fn number_at(negative: bool, size: u128, denominator: u128) -> Option<Fraction>
     requires above_zero { 0 < denominator }
     requires lowest { gcd size denominator ≡ 1 }
-    ensures { result ≡ number_at (signed negative size) denominator }
+    ensures { result ≡ number_at (with_minus negative size) denominator }
 {
     if size > MAX || denominator > MAX {
         return None;
     }
     let parts = Parts {
-        numerator: signed(negative, size),
+        numerator: with_minus(negative, size),
         denominator,
     };
     Some(Fraction::of(parts))
@@ -57,9 +57,9 @@ pub(crate) fn integer(n: i128) -> Fraction
 }
 
 /// The whole number of that sign and size.
-pub(crate) fn signed(negative: bool, size: u128) -> i128
+pub(crate) fn with_minus(negative: bool, size: u128) -> i128
     requires { size ≤ max_size }
-    ensures { result ≡ signed negative size }
+    ensures { result ≡ with_minus negative size }
 {
     let magnitude = size as i128;
     if negative { -magnitude } else { magnitude }

@@ -3,7 +3,7 @@
 ghost use Rattle.std.specs.Prelude.{◌≡◌, ◌^◌, ◌%◌, ◌<◌, ◌==◌, ◌&&◌, int_lt, pos, ok_or, if◌then◌else◌};
 ghost use Rattle.std.specs.Ordering.{int_eq};
 ghost use Rattle.wi_fraction.specs.Gcd.{gcd};
-ghost use Rattle.wi_fraction.specs.Number.{number_of, signed};
+ghost use Rattle.wi_fraction.specs.Number.{number_of, with_minus};
 ghost use Rattle.wi_fraction.specs.Arithmetic.{power_of};
 ghost use Rattle.wi_fraction.specs.Inner.Bounds.{bounded};
 
@@ -45,7 +45,7 @@ fn is_odd_negative(n: i128, count: u128) -> bool
 fn power(negative: bool, size: u128, denominator: u128, count: u128) -> Option<Fraction>
     requires above_zero { 0 < denominator }
     requires lowest { gcd size denominator ≡ 1 }
-    ensures { result ≡ number_of (signed negative (size ^ count)) (denominator ^ count) }
+    ensures { result ≡ number_of (with_minus negative (size ^ count)) (denominator ^ count) }
 {
     let above = size_power(size, count)?;
     let below = size_power(denominator, count)?;

@@ -1,13 +1,13 @@
 // Whole numbers near a number, and rounding to decimal places.
 
 ghost use Rattle.std.specs.Prelude.{◌≡◌, ◌+◌, ◌*◌, ◌/◌, ◌<◌, ◌≤◌, ok_or};
-ghost use Rattle.wi_fraction.specs.Number.{max_size, signed};
+ghost use Rattle.wi_fraction.specs.Number.{max_size, with_minus};
 ghost use Rattle.wi_fraction.specs.Arithmetic.{times_ten_to};
 ghost use Rattle.wi_fraction.specs.Rounding.{floored, rounded, rounded_size, round_to};
 
 use crate::arithmetic::multiplied;
 use crate::division::{divide, remainder};
-use crate::lowest_terms::{integer, signed};
+use crate::lowest_terms::{integer, with_minus};
 use crate::words::Parts;
 use crate::{Fraction, FractionError};
 
@@ -62,7 +62,7 @@ impl Fraction {
     /// The number times that power of ten, or divided by it.
     fn shifted(self, down: bool, power: u32) -> Option<Fraction>
         requires { power ≤ 38 }
-        ensures { result ≡ times_ten_to (signed down power) self.num self.den }
+        ensures { result ≡ times_ten_to (with_minus down power) self.num self.den }
     {
         let Parts {
             numerator: n,
@@ -89,10 +89,10 @@ impl Fraction {
 /// The whole number of that sign and size.
 fn whole(negative: bool, size: u128) -> Fraction
     requires { size ≤ max_size }
-    ensures numerator { result.num ≡ signed negative size }
+    ensures numerator { result.num ≡ with_minus negative size }
     ensures denominator { result.den ≡ 1 }
 {
-    integer(signed(negative, size))
+    integer(with_minus(negative, size))
 }
 
 /// The whole number for the size n/d.

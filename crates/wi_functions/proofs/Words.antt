@@ -32,8 +32,8 @@ pub use Rattle.wi_parser.proofs.ExprTrees.{binary_seen, call_seen, what_if_seen}
 pub use Rattle.wi_parser.proofs.Rectangles.{one_cell}
 pub use Rattle.wi_parser.proofs.expr.Expr.TheLaws.{the_size}
 pub use Rattle.wi_parser.specs.Leaves.{Leaf, all_leaves, cell_leaf, leaves, rectangle_leaf, what_if_leaf}
-pub use Rattle.wi_parser.specs.Reads.{area_of, cell_area}
-pub use Rattle.wi_parser.specs.Tree.{Tree, Trees, binary, call, cell, number, parenthesized, rectangle, text}
+pub use Rattle.wi_parser.specs.Reads.{cell_area}
+pub use Rattle.wi_parser.specs.Tree.{Tree, Trees, binary, call, cell, number, parenthesized, rectangle, text, area_of}
 pub use Rattle.wi_parser.specs.View.{all_of, pair_of, tree_of}
 pub use Rattle.wi_parser.specs.declared.expr.Corners.{Corners}
 pub use Rattle.wi_parser.specs.declared.expr.Expr.{Expr, the_lemmas}

@@ -6,8 +6,7 @@ use Rattle.wi_values.specs.declared.value.Value.TheVariants.{Empty, Number, Text
 use Rattle.wi_values.specs.declared.value.ErrorKind.TheVariants.{BadValue}
 use Rattle.wi_values.specs.Address.{Area, rect_of}
 use Rattle.wi_parser.specs.declared.expr.Operator.TheVariants.{Divide}
-use Rattle.wi_parser.specs.Tree.{Tree, Trees, number, text, cell, rectangle, parenthesized, signed, percent, binary, what_if, call, no_trees, more_trees}
-use Rattle.wi_parser.specs.Reads.{area_of}
+use Rattle.wi_parser.specs.Tree.{Tree, Trees, number, text, cell, rectangle, parenthesized, signed, percent, binary, what_if, call, no_trees, more_trees, area_of}
 use Rattle.wi_standard_functions.specs.Arguments.{Argument, region_of}
 use Rattle.wi_standard_functions.specs.Functions.{call_value}
 use Rattle.wi_standard_functions.specs.Convert.{zero_number, hundred_number}

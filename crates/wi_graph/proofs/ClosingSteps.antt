@@ -1,5 +1,5 @@
 -- Edits that close no cycle.
-use Rattle.wi_graph.proofs.Words.{◌≡◌, ◌==◌, ◌&&◌, ◌||◌, ◌⊎◌, inl, inr, ℕ, Bool, true, false, cond, filter, nat_le, get_or, length, arith, List, [], ◌∷◌, Option, Some, None, IfSome, is_some, refl, ap, sym, ◌∙◌, subst, or_cases, or_left, or_right, or_parts, or-false, and_parts, and_from, false_from_ne_true, le-leb, nil_from_length, list_any, find, keys_of, lookup, nat_cmp, is_at, BTreeSet, btree_set_len, contains, SmallVec, one_truth, Area, is_within, within_between, Content, Sheet, content_of, content_reads, circular, is_one_of, areas_in, Turns, areas_then, Brings, IsEditCone, Rooms, Coming, brought_to, in_room, items_of, room_at, put_over, room_over, areas_of, AreCyclic, is_within_one, reads_cell, has_one, reads_one_of, meets_one_of, has_room_in, StandsApart, AreTurns, as_set, is_ahead, IsLookedAt, ReachesNot, ReadsApart, IsAhead, IsFoundBy, has_key}
+use Rattle.wi_graph.proofs.Words.{◌≡◌, ◌==◌, ◌&&◌, ◌||◌, ◌⊎◌, inl, inr, ℕ, Bool, true, false, cond, filter, nat_le, get_or, length, arith, List, [], ◌∷◌, Option, Some, None, IfSome, is_some, refl, ap, sym, ◌∙◌, subst, or_cases, or_left, or_right, or_parts, or-false, and_parts, and_from, false_from_ne_true, le-leb, nil_from_length, list_any, find, keys_of, lookup, nat_cmp, is_at, BTreeSet, btree_set_len, contains, SmallVec, one_truth, Area, is_within, within_between, Content, Sheet, content_of, content_reads, circular, is_one_of, areas_in, Turns, areas_then, Brings, IsEditCone, Rooms, Coming, brought_to, in_room, items_of, room_at, put_over, room_over, areas_of, AreCyclic, is_within_one, reads_cell, has_one, reads_one_of, meets_one_of, has_room_in, StandsApart, AreTurns, as_set, is_ahead, IsLookedAt, ReachesNot, ReadsApart, IsAhead, IsAtOrBefore, has_key}
 use Rattle.wi_graph.proofs.Tests.{is_at-eq, turn_test, is_itself, clash}
 use Rattle.wi_graph.proofs.Walks.{found, same_cell}
 use Rattle.wi_graph.proofs.Graphs.{left_circular}
@@ -20,7 +20,7 @@ inside_finds (k ∷ ks) r h = at (or_cases (is_within r k) _ h) (inside_finds ks
     at (inl m) ih = (k, or_left (k == k) _ (is_itself k), m)
     at (inr m) ih = let x = ih m in (x.0, or_right (k == x.0) _ x.1, x.2)
 
-pub has_one_is : (cells : BTreeSet ℕ) (r : Area) (o : Option ℕ) → IfSome o (IsAhead cells r r.first) → ((c : ℕ) → IsAhead cells r r.first c → IsFoundBy o c) → is_some o ≡ has_one cells r
+pub has_one_is : (cells : BTreeSet ℕ) (r : Area) (o : Option ℕ) → IfSome o (IsAhead cells r r.first) → ((c : ℕ) → IsAhead cells r r.first c → IsAtOrBefore o c) → is_some o ≡ has_one cells r
 has_one_is cells r None f n = sym (false_from_ne_true (has_one cells r) (λ h.
     let x = inside_finds cells.keys r h in
     n x.0 ((within_between r x.0 x.2).0, x.2, has_key cells.keys x.0 ∙ x.1)))

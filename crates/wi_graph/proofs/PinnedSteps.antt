@@ -1,5 +1,5 @@
 -- Which cells read a circular cell outside a cone.
-use Rattle.wi_graph.proofs.Words.{◌≡◌, ◌==◌, ◌&&◌, ◌||◌, ◌⊎◌, inl, inr, not, ℕ, ◌+◌, ◌<◌, ◌≤◌, Bool, true, false, List, [], ◌∷◌, filter, Option, Some, None, IfSome, ap, sym, ◌∙◌, arith, lt_of_le-ne, or_cases, or_left, or_right, and_parts, and_from, false_from_ne_true, not-true, not_from_false, any-filter_same, list_any, nat_cmp, Vec, BTreeMap, BTreeSet, contains, Area, is_within, is_within_one, is_one_of, IsAhead, IsFoundBy, has_cyclic_outside, reads_outside, within_between, places_left, has_key}
+use Rattle.wi_graph.proofs.Words.{◌≡◌, ◌==◌, ◌&&◌, ◌||◌, ◌⊎◌, inl, inr, not, ℕ, ◌+◌, ◌<◌, ◌≤◌, Bool, true, false, List, [], ◌∷◌, filter, Option, Some, None, IfSome, ap, sym, ◌∙◌, arith, lt_of_le-ne, or_cases, or_left, or_right, and_parts, and_from, false_from_ne_true, not-true, not_from_false, any-filter_same, list_any, nat_cmp, Vec, BTreeMap, BTreeSet, contains, Area, is_within, is_within_one, is_one_of, IsAhead, IsAtOrBefore, has_cyclic_outside, reads_outside, within_between, places_left, has_key}
 use Rattle.wi_graph.proofs.Tests.{is_itself, clash}
 use Rattle.wi_graph.proofs.Walks.{same_cell, found}
 
@@ -45,16 +45,16 @@ IsOutside cyclic cells r c = (is_within r c ≡ true) × (contains nat_cmp cycli
 
 -- the search stands at a circular cell of the rectangle, and is not past any outside the cone
 abbrev pub IsSearched : BTreeSet ℕ → BTreeSet ℕ → Area → Option ℕ → Type 0
-IsSearched cyclic cells r ahead = ((c : ℕ) → IsOutside cyclic cells r c → IsFoundBy ahead c) × IfSome ahead (λ d. (is_within r d ≡ true) × (contains nat_cmp cyclic d ≡ true))
+IsSearched cyclic cells r ahead = ((c : ℕ) → IsOutside cyclic cells r c → IsAtOrBefore ahead c) × IfSome ahead (λ d. (is_within r d ≡ true) × (contains nat_cmp cyclic d ≡ true))
 
 hits : (cyclic : BTreeSet ℕ) (r : Area) (from : ℕ) (o : Option ℕ) → IfSome o (IsAhead cyclic r from) → IfSome o (λ d. (is_within r d ≡ true) × (contains nat_cmp cyclic d ≡ true))
 hits cyclic r from None h = tt
 hits cyclic r from (Some d) h = (h.1, h.2)
 
-pub searched_start : (cyclic cells : BTreeSet ℕ) (r : Area) (found : Option ℕ) → IfSome found (IsAhead cyclic r r.first) → ((c : ℕ) → IsAhead cyclic r r.first c → IsFoundBy found c) → IsSearched cyclic cells r found
+pub searched_start : (cyclic cells : BTreeSet ℕ) (r : Area) (found : Option ℕ) → IfSome found (IsAhead cyclic r r.first) → ((c : ℕ) → IsAhead cyclic r r.first c → IsAtOrBefore found c) → IsSearched cyclic cells r found
 searched_start cyclic cells r found h f = (λ c o. f c ((within_between r c o.0).0, o.0, o.1), hits cyclic r r.first found h)
 
-pub searched_on : (cyclic cells : BTreeSet ℕ) (r : Area) (cyclic_cell : ℕ) (found : Option ℕ) → contains nat_cmp cells cyclic_cell ≡ true → IfSome found (IsAhead cyclic r (cyclic_cell + 1)) → ((c : ℕ) → IsAhead cyclic r (cyclic_cell + 1) c → IsFoundBy found c) →
+pub searched_on : (cyclic cells : BTreeSet ℕ) (r : Area) (cyclic_cell : ℕ) (found : Option ℕ) → contains nat_cmp cells cyclic_cell ≡ true → IfSome found (IsAhead cyclic r (cyclic_cell + 1)) → ((c : ℕ) → IsAhead cyclic r (cyclic_cell + 1) c → IsAtOrBefore found c) →
     IsSearched cyclic cells r (Some cyclic_cell) → IsSearched cyclic cells r found
 searched_on cyclic cells r cyclic_cell found i h f s = (λ c o. f c (later c o, o.0, o.1), hits cyclic r (cyclic_cell + 1) found h)
   where

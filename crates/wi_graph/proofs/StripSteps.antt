@@ -1,5 +1,5 @@
 -- Steps of stripping.
-use Rattle.wi_graph.proofs.Words.{◌≡◌, ◌==◌, ◌&&◌, ◌||◌, ◌⊎◌, inl, inr, not, nat_le, ℕ, ◌≤◌, Bool, true, false, cond, List, [], ◌∷◌, ◌++◌, Option, Some, None, refl, ap, sym, ◌∙◌, arith, or-false, or_cases, or_left, or_right, and_parts, and_from, false_from_ne_true, not-true, not_from_false, le-leb, list_any-append, lookup, nat_cmp, Vec, BTreeMap, is_at, BTreeSet, contains, difference, Area, row_of, is_within, is_one_of, IsAhead, IsFoundBy, items_there, is_within_one, reads_in, waiting_for, waits_for, KeepsReads, ReadsOne, EachReadsOne, AreStripped, IsWithin, Waits, IsTracking, IsFree, within_between}
+use Rattle.wi_graph.proofs.Words.{◌≡◌, ◌==◌, ◌&&◌, ◌||◌, ◌⊎◌, inl, inr, not, nat_le, ℕ, ◌≤◌, Bool, true, false, cond, List, [], ◌∷◌, ◌++◌, Option, Some, None, refl, ap, sym, ◌∙◌, arith, or-false, or_cases, or_left, or_right, and_parts, and_from, false_from_ne_true, not-true, not_from_false, le-leb, list_any-append, lookup, nat_cmp, Vec, BTreeMap, is_at, BTreeSet, contains, difference, Area, row_of, is_within, is_one_of, IsAhead, IsAtOrBefore, items_there, is_within_one, reads_in, waiting_for, waits_for, KeepsReads, ReadsOne, EachReadsOne, AreStripped, IsWithin, Waits, IsTracking, IsFree, within_between}
 use Rattle.std.specs.BTreeMap.{get}
 use Rattle.wi_graph.proofs.Tests.{turn_test, is_at-eq, is_itself, clash}
 use Rattle.wi_graph.proofs.Walks.{same_cell}
@@ -216,7 +216,7 @@ last_area : (areas : List Area) (area : Area) (d : ℕ) → is_within_one (areas
 last_area areas area d = list_any-append (λ r. is_within r d) areas (area ∷ []) ∙ ap (λ (b : Bool). is_within_one areas d || b) (or-false (is_within area d))
 
 -- the last has none of the set
-pub cells_dropped : (rest : BTreeSet ℕ) (first old new : List Area) (area : Area) → old ≡ new ++ area ∷ [] → ((c : ℕ) → IsAhead rest area area.first c → IsFoundBy None c) → KeepsCells rest first old → KeepsCells rest first new
+pub cells_dropped : (rest : BTreeSet ℕ) (first old new : List Area) (area : Area) → old ≡ new ++ area ∷ [] → ((c : ℕ) → IsAhead rest area area.first c → IsAtOrBefore None c) → KeepsCells rest first old → KeepsCells rest first new
 cells_dropped rest first old new area e n k d h = sym (ap (λ (rs : List Area). is_within_one rs d) e ∙ last_area new area d ∙ ap (λ (b : Bool). is_within_one new d || b) beside ∙ or-false (is_within_one new d)) ∙ k d h
   where
     beside : is_within area d ≡ false
@@ -224,7 +224,7 @@ cells_dropped rest first old new area e n k d h = sym (ap (λ (rs : List Area). 
 
 -- or it is cut, from the row of the first that it has
 pub cells_cut : (rest : BTreeSet ℕ) (first old less new : List Area) (area cut : Area) (read : ℕ) → old ≡ less ++ area ∷ [] → new ≡ less ++ cut ∷ [] → ((a : ℕ) → is_within cut a ≡ (is_within area a && nat_le (row_of read) (row_of a))) →
-    ((c : ℕ) → IsAhead rest area area.first c → IsFoundBy (Some read) c) → KeepsCells rest first old → KeepsCells rest first new
+    ((c : ℕ) → IsAhead rest area area.first c → IsAtOrBefore (Some read) c) → KeepsCells rest first old → KeepsCells rest first new
 cells_cut rest first old less new area cut read e f w n k d h =
     ap (λ (rs : List Area). is_within_one rs d) f ∙ last_area less cut d ∙ ap (λ (b : Bool). is_within_one less d || b) (w d ∙ at (is_within area d) refl)
     ∙ sym (ap (λ (rs : List Area). is_within_one rs d) e ∙ last_area less area d) ∙ k d h

@@ -1,5 +1,5 @@
 -- A search for the cells of a set, or of a list, in a rectangle.
-use Rattle.wi_graph.proofs.Words.{◌≡◌, ◌⊎◌, inl, inr, ◌&&◌, ℕ, zero, suc, ◌+◌, ◌-◌, ◌<◌, ◌≤◌, true, false, List, [], ◌∷◌, length, get_or, Option, Some, None, IfSome, ap, sym, ◌∙◌, subst, arith, ltb-true, lt_of_le-ne, or_cases, and_parts, and_from, cases_lt, nat_tests, get_or_default, IsNonDecreasingBy-from_default, list_any, IsStrictlyIncreasing, IsNonDecreasing, IsPartitionPoint, nat_lt, nat_cmp, is_at, IsLeBy, BTreeSet, contains, IsKeyRangeOf, Included, Area, is_within, within_between, AreWithin, as_set, IsAhead, IsBetween, IsFoundBy}
+use Rattle.wi_graph.proofs.Words.{◌≡◌, ◌⊎◌, inl, inr, ◌&&◌, ℕ, zero, suc, ◌+◌, ◌-◌, ◌<◌, ◌≤◌, true, false, List, [], ◌∷◌, length, get_or, Option, Some, None, IfSome, ap, sym, ◌∙◌, subst, arith, ltb-true, lt_of_le-ne, or_cases, and_parts, and_from, cases_lt, nat_tests, get_or_default, IsNonDecreasingBy-from_default, list_any, IsStrictlyIncreasing, IsNonDecreasing, IsPartitionPoint, nat_lt, nat_cmp, is_at, IsLeBy, BTreeSet, contains, IsKeyRangeOf, Included, Area, is_within, within_between, AreWithin, as_set, IsAhead, IsBetween, IsAtOrBefore}
 use Rattle.wi_graph.proofs.Tests.{clash, at_same}
 
 -- ---- the first of a range
@@ -59,18 +59,18 @@ listed_first xs from to k x s b l e c h = let g = listed_later xs from k c s b h
 
 -- the search is not past any cell ahead
 abbrev pub IsSeeking : BTreeSet ℕ → Area → ℕ → Option ℕ → Type 0
-IsSeeking cells r from ahead = ((c : ℕ) → IsAhead cells r from c → IsFoundBy ahead c) × IfSome ahead (λ a. from ≤ a)
+IsSeeking cells r from ahead = ((c : ℕ) → IsAhead cells r from c → IsAtOrBefore ahead c) × IfSome ahead (λ a. from ≤ a)
 
 pub seek_start : (cells : BTreeSet ℕ) (r : Area) (from : ℕ) → IsSeeking cells r from (Some from)
 seek_start cells r from = (λ c h. h.0, omega arith)
 
 -- what is ahead is found in the range
-pub seek_first : (cells : BTreeSet ℕ) (r : Area) (from start : ℕ) (found : Option ℕ) → IsSeeking cells r from (Some start) → ((c : ℕ) → IsBetween cells start r.last c → IsFoundBy found c) →
-    (c : ℕ) → IsAhead cells r from c → IsFoundBy found c
+pub seek_first : (cells : BTreeSet ℕ) (r : Area) (from start : ℕ) (found : Option ℕ) → IsSeeking cells r from (Some start) → ((c : ℕ) → IsBetween cells start r.last c → IsAtOrBefore found c) →
+    (c : ℕ) → IsAhead cells r from c → IsAtOrBefore found c
 seek_first cells r from start found s f c h = f c (s.0 c h, (within_between r c h.1).1, h.2)
 
 -- nothing is found in the range
-pub seek_none : (cells : BTreeSet ℕ) (r : Area) (from start last : ℕ) (o : Option ℕ) → last ≡ r.last → IsSeeking cells r from (Some start) → ((c : ℕ) → IsBetween cells start last c → IsFoundBy None c) → (c : ℕ) → IsAhead cells r from c → IsFoundBy o c
+pub seek_none : (cells : BTreeSet ℕ) (r : Area) (from start last : ℕ) (o : Option ℕ) → last ≡ r.last → IsSeeking cells r from (Some start) → ((c : ℕ) → IsBetween cells start last c → IsAtOrBefore None c) → (c : ℕ) → IsAhead cells r from c → IsAtOrBefore o c
 seek_none cells r from start last o e s f c h = absurd (f c (s.0 c h, subst (λ (y : ℕ). c ≤ y) (sym e) (within_between r c h.1).1, h.2))
 
 -- the one found is in the rectangle
@@ -78,8 +78,8 @@ pub seek_found : (cells : BTreeSet ℕ) (r : Area) (from start cell : ℕ) → I
 seek_found cells r from start cell s b w = (omega (arith, s.1, b.0), w, b.2)
 
 -- it stands beside the rectangle
-pub seek_on : (cells : BTreeSet ℕ) (r : Area) (from start cell : ℕ) (next : Option ℕ) → IsSeeking cells r from (Some start) → IsBetween cells start r.last cell → ((c : ℕ) → IsBetween cells start r.last c → IsFoundBy (Some cell) c) → is_within r cell ≡ false →
-    IfSome next (λ a. (cell < a) × (a ≤ r.last)) → ((a : ℕ) → is_within r a ≡ true → cell < a → IsFoundBy next a) → IsSeeking cells r from next
+pub seek_on : (cells : BTreeSet ℕ) (r : Area) (from start cell : ℕ) (next : Option ℕ) → IsSeeking cells r from (Some start) → IsBetween cells start r.last cell → ((c : ℕ) → IsBetween cells start r.last c → IsAtOrBefore (Some cell) c) → is_within r cell ≡ false →
+    IfSome next (λ a. (cell < a) × (a ≤ r.last)) → ((a : ℕ) → is_within r a ≡ true → cell < a → IsAtOrBefore next a) → IsSeeking cells r from next
 seek_on cells r from start cell next s b f n after first = (λ c h. first c h.1 (later c h), on next after)
   where
     later : (c : ℕ) → IsAhead cells r from c → cell < c
@@ -102,7 +102,7 @@ none_ahead cells r from None e = tt
 none_ahead cells r from (Some x) e = cc
 
 -- where there is nothing in common, no cell is ahead
-pub apart_first : (cells : BTreeSet ℕ) (r bounds : Area) (from : ℕ) (o : Option ℕ) → AreWithin bounds cells → ((c : ℕ) → false ≡ (is_within r c && is_within bounds c)) → (c : ℕ) → IsAhead cells r from c → IsFoundBy o c
+pub apart_first : (cells : BTreeSet ℕ) (r bounds : Area) (from : ℕ) (o : Option ℕ) → AreWithin bounds cells → ((c : ℕ) → false ≡ (is_within r c && is_within bounds c)) → (c : ℕ) → IsAhead cells r from c → IsAtOrBefore o c
 apart_first cells r bounds from o w n c h = clash (is_within r c && is_within bounds c) (and_from (is_within r c) _ h.1 (w c h.2)) (sym (n c))
 
 -- the cells are seen as a set that is the same, and the search begins at the same cell
@@ -116,7 +116,7 @@ part_found cells set r bounds part from start (Some x) s e w h = (
 )
 
 pub part_first : (cells set : BTreeSet ℕ) (r bounds part : Area) (from start : ℕ) (o : Option ℕ) → set ≡ cells → start ≡ from → AreWithin bounds cells → ((c : ℕ) → is_within part c ≡ (is_within r c && is_within bounds c)) →
-    ((c : ℕ) → IsAhead set part start c → IsFoundBy o c) → (c : ℕ) → IsAhead cells r from c → IsFoundBy o c
+    ((c : ℕ) → IsAhead set part start c → IsAtOrBefore o c) → (c : ℕ) → IsAhead cells r from c → IsAtOrBefore o c
 part_first cells set r bounds part from start o s e b w f c h = f c (
   subst (λ (y : ℕ). y ≤ c) (sym e) h.0,
   w c ∙ and_from (is_within r c) _ h.1 (b c h.2),

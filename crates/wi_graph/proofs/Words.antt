@@ -44,7 +44,7 @@ pub use Rattle.wi_graph.specs.Inner.Staging.{HasThese, times_among}
 pub use Rattle.wi_graph.specs.Inner.Stripping.{AreStripped, EachReadsOne, IsFree, IsTracking, IsWithin, KeepsReads, ReadsOne, Waits, items_there, reads_in, waiting_for, waits_for}
 pub use Rattle.wi_graph.specs.Inner.Turning.{AreTurns, FindsCyclic, StandsApart, has_cyclic_outside, has_one, has_room_in, meets_one_of, reads_cell, reads_one_of, reads_outside, turned_by}
 pub use Rattle.wi_graph.specs.Inner.Walks.{has_walk}
-pub use Rattle.wi_graph.specs.Inner.Within.{IsAhead, IsBetween, IsFoundBy}
+pub use Rattle.wi_graph.specs.Inner.Within.{IsAhead, IsBetween}
 pub use Rattle.wi_graph.specs.Latest.{EditDirties, IsLatest, IsDirty, IsUnread, LatestByStep, LatestIsAmong, LatestOfCone, LatestRises, NoneIsDirty, OneIsLatest, DirtyStays, FlushesOne, FlushingBegins, latest_among, numbered}
 pub use Rattle.wi_graph.specs.Reach.{AgreeFrom, IsInCone, Reaches, SameOff, Walks, in_cone, reaches_by}
 unfoldable pub use Rattle.wi_graph.specs.Reach.{reaches}
@@ -71,5 +71,6 @@ pub use Rattle.wi_values.proofs.Outcomes.{on_err}
 pub use Rattle.wi_values.proofs.Small.{max_at_most, max_below}
 pub use Rattle.wi_values.proofs.Within.{column_of_place, fewer_places, places_left, row_of_place, within_between, within_from, within_parts}
 pub use Rattle.wi_values.specs.Address.{Area, column_of, columns, is_one_of, is_within, is_within_one, place, rect_of, row_of}
+pub use Rattle.wi_values.specs.Inner.Cells.{IsAtOrBefore}
 pub use Rattle.wi_values.specs.declared.value.Value.{Value}
 pub use Rattle.wi_values.specs.declared.value.Value.TheVariants.{Empty, Fault, Logical, Number, Text}

@@ -2,10 +2,9 @@
 use Rattle.std.specs.Prelude.{ℕ, Bool, false, ◌==◌, ◌||◌, Option, Some}
 use Rattle.std.specs.List.{list_any}
 use Rattle.wi_values.specs.Address.{is_within}
-use Rattle.wi_parser.specs.Tree.{Tree, Trees, cell, rectangle, parenthesized, signed, percent, binary, what_if, call, no_trees, more_trees}
+use Rattle.wi_parser.specs.Tree.{Tree, Trees, cell, rectangle, parenthesized, signed, percent, binary, what_if, call, no_trees, more_trees, area_of}
 use Rattle.wi_parser.specs.declared.content.Content.{Content}
 use Rattle.wi_parser.specs.declared.content.Content.TheVariants.{Formula}
-use Rattle.wi_parser.specs.Reads.{area_of}
 
 abbrev mutual
   -- Whichever branch is taken. Of a what-if the formula cell and the replacement cells are read; its inputs are only

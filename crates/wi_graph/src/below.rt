@@ -8,7 +8,6 @@ ghost use Rattle.wi_graph.specs.Inner.Rooms.{items_of, areas_of, room_at};
 ghost use Rattle.wi_graph.specs.Inner.Below.{HasAreas, HasRest, has_visited, IsSearchingBelow, IsBelow};
 
 use crate::rooms::{Rectangles, Rooms, rectangles_in};
-use crate::within::place_after;
 use std::alloc::{AllocError, Global};
 use wi_tiles::CellMap;
 use wi_values::{Address, Rect};
@@ -118,7 +117,7 @@ fn go_on(area: Rect, read: Address, ahead: &mut Ahead) -> Result<(), AllocError>
     requires { is_within area read ≡ true }
     ensures { OnOk result (HasRest area read ahead.old.items ahead.new.items) }
 {
-    if let Some(on) = place_after(area, read) {
+    if let Some(on) = area.cell_after(read) {
         ahead.push((area, on))?;
     }
     Ok(())

@@ -1,12 +1,13 @@
 //! The cells of a set, or of a list, in a rectangle, one after another.
 
-ghost use Rattle.std.specs.Prelude.{⊤, ◌≡◌, ◌<◌, ◌≤◌, ◌+◌, ◌&&◌, ℕ, true, false, nat_lt, nat_le, length, IfSome};
+ghost use Rattle.std.specs.Prelude.{⊤, ◌≡◌, ◌≤◌, ◌+◌, ◌&&◌, ℕ, true, false, nat_lt, nat_le, length, IfSome};
 ghost use Rattle.std.specs.List.Sorted.{IsStrictlyIncreasing, IsPartitionPoint};
 ghost use Rattle.std.specs.BTreeSet.{BTreeSet, contains};
 ghost use Rattle.wi_values.specs.Address.{row_of, is_within};
+ghost use Rattle.wi_values.specs.Inner.Cells.{IsAtOrBefore};
 ghost use Rattle.wi_ranges.specs.Inner.Rising.{as_set};
 ghost use Rattle.wi_graph.specs.Inner.Bounds.{AreWithin};
-ghost use Rattle.wi_graph.specs.Inner.Within.{IsAhead, IsBetween, IsFoundBy};
+ghost use Rattle.wi_graph.specs.Inner.Within.{IsAhead, IsBetween};
 
 use crate::bounds::intersection;
 use crate::cell_set::CellSet;
@@ -19,7 +20,7 @@ use wi_values::{Address, Rect};
 /// one found; where the rectangle around the set doesn't meet it, it is constant.
 pub(crate) fn next_within(cells: &CellSet, area: Rect, from: Address) -> Option<Address>
     ensures found { IfSome result (IsAhead cells.now area from) }
-    ensures first { (c : ℕ) → IsAhead cells.now area from c → IsFoundBy result c }
+    ensures first { (c : ℕ) → IsAhead cells.now area from c → IsAtOrBefore result c }
 {
     let part = intersection(area, cells.around())?;
     next_in_part(cells.set(), part, from)
@@ -31,7 +32,7 @@ pub(crate) fn next_within(cells: &CellSet, area: Rect, from: Address) -> Option<
 fn next_in_part<C: FindsFirst>(cells: &C, area: Rect, from: Address) -> Option<Address>
     requires { C.is_in_order cells.now }
     ensures found { IfSome result (IsAhead (C.cells cells.now) area from) }
-    ensures first { (c : ℕ) → IsAhead (C.cells cells.now) area from c → IsFoundBy result c }
+    ensures first { (c : ℕ) → IsAhead (C.cells cells.now) area from c → IsAtOrBefore result c }
 {
     let mut ahead = Some(from);
     while let Some(start) = ahead {
@@ -39,7 +40,7 @@ fn next_in_part<C: FindsFirst>(cells: &C, area: Rect, from: Address) -> Option<A
         if area.contains(cell) {
             return Some(cell);
         }
-        ahead = place_after(area, cell);
+        ahead = area.cell_after(cell);
     }
     None
 }
@@ -48,9 +49,9 @@ fn next_in_part<C: FindsFirst>(cells: &C, area: Rect, from: Address) -> Option<A
 pub(crate) fn next_after(cells: &CellSet, area: Rect, cell: Address) -> Option<Address>
     requires { cell ≤ area.last }
     ensures found { IfSome result (IsAhead cells.now area (cell + 1)) }
-    ensures first { (c : ℕ) → IsAhead cells.now area (cell + 1) c → IsFoundBy result c }
+    ensures first { (c : ℕ) → IsAhead cells.now area (cell + 1) c → IsAtOrBefore result c }
 {
-    let from = place_after(area, cell)?;
+    let from = area.cell_after(cell)?;
     next_within(cells, area, from)
 }
 
@@ -60,7 +61,7 @@ pub(crate) fn first_listed(cells: &[Address], bounds: Rect, area: Rect) -> Optio
     requires order { IsStrictlyIncreasing cells.now }
     requires within { AreWithin bounds (as_set cells.now) }
     ensures found { IfSome result (IsAhead (as_set cells.now) area area.first) }
-    ensures first { (c : ℕ) → IsAhead (as_set cells.now) area area.first c → IsFoundBy result c }
+    ensures first { (c : ℕ) → IsAhead (as_set cells.now) area area.first c → IsAtOrBefore result c }
 {
     let part = intersection(area, bounds)?;
     next_in_part(&cells, part, area.first())
@@ -86,7 +87,7 @@ trait FindsFirst {
     fn first_between(&self, from: Address, to: Address) -> Option<Address>
         requires { is_in_order self.now }
         ensures found { IfSome result (IsBetween (cells self.now) from to) }
-        ensures first { (c : ℕ) → IsBetween (cells self.now) from to c → IsFoundBy result c };
+        ensures first { (c : ℕ) → IsBetween (cells self.now) from to c → IsAtOrBefore result c };
 }
 
 impl FindsFirst for BTreeSet<Address> {
@@ -135,22 +136,4 @@ fn count_before(cells: &[Address], from: Address) -> usize
         (λ c. nat_lt c from ≡ true) (λ c. nat_lt c from ≡ false) cells.now result }
 {
     cells.partition_point(|cell| *cell < from)
-}
-
-/// The first place of a rectangle after a cell, if one comes after it.
-pub(crate) fn place_after(area: Rect, cell: Address) -> Option<Address>
-    requires { cell ≤ area.last }
-    ensures after { IfSome result (λ a. (cell < a) × (a ≤ area.last)) }
-    ensures first { (a : ℕ) → is_within area a ≡ true → cell < a → IsFoundBy result a }
-{
-    let left = area.first().column();
-    if cell.column() < left {
-        Some(Address::at(cell.row(), left))
-    } else if cell.column() < area.last().column() {
-        Some(Address::at(cell.row(), cell.column() + 1))
-    } else if cell.row() < area.last().row() {
-        Some(Address::at(cell.row() + 1, left))
-    } else {
-        None
-    }
 }

@@ -1,5 +1,5 @@
 -- The number found at the front is one, and no number there is longer.
-use Rattle.wi_lexer.proofs.Words.{◌≡◌, ℕ, suc, ◌+◌, ◌<◌, ◌≤◌, ℤ, pos, Bool, true, false, cond, ◌||◌, ◌==◌, ◌⊎◌, inl, inr, List, [], ◌∷◌, ◌++◌, length, take, drop, refl, sym, ap, ◌∙◌, subst, arith, append_assoc, append-nil, length-append, length-drop, nat_lt, eqb-true, ltb-true, ltb-false, lt-ltb, nat_tests, take-add, drop-append_seam, is_ascii_digit, IsNumeral, WritesDigits, is_exponent_letter, WritesExponent, none as no_exponent, power, IsSign, no_sign, plus, minus, Writes, writes, IsDecimalText, capital_from_letter, letter_from_capital, letter_no_digit, letter_no_point, digits_len, one_longer, is_sign_byte, decimals_len, decimal_len, signed_len, exponent_len, number_len}
+use Rattle.wi_lexer.proofs.Words.{◌≡◌, ℕ, suc, ◌+◌, ◌<◌, ◌≤◌, ℤ, pos, Bool, true, false, cond, ◌||◌, ◌==◌, ◌⊎◌, inl, inr, List, [], ◌∷◌, ◌++◌, length, take, drop, refl, sym, ap, ◌∙◌, subst, arith, append_assoc, append-nil, length-append, length-drop, nat_lt, eqb-true, ltb-true, ltb-false, lt-ltb, nat_tests, take-add, drop-append_seam, is_ascii_digit, IsNumeral, WritesDigits, is_exponent_letter, WritesExponent, none as no_exponent, power, IsSign, no_sign, plus, minus, WritesNumber, writes, IsDecimalText, capital_from_letter, letter_from_capital, letter_no_digit, letter_no_point, digits_len, one_longer, is_sign_byte, decimals_len, decimal_len, signed_len, exponent_len, number_len}
 use Rattle.std.specs.Prelude.{Option}
 use Rattle.wi_fraction.specs.Number.{Number as Numbers}
 use Rattle.wi_lexer.proofs.RunLemmas.{run_within, run_stops, run_more, digits_all, one_longer_some, one_longer_back, one_longer_within}
@@ -135,7 +135,7 @@ with_exponent : (P : List ℕ → Type 0) → ByExponent P → (text ds es : Lis
 with_exponent P p text ds es d exponent k e (inl empty) = subst P (sym (ap (λ x. text ++ x) empty ∙ append-nil text)) (p.alone text ds es d)
 with_exponent P p text ds es d exponent k e (inr letter) = p.scaled text ds es d exponent k e letter
 
-by_exponent : (P : List ℕ → Type 0) → ByExponent P → (text : List ℕ) (o : Option Numbers) → Writes text o → P text
+by_exponent : (P : List ℕ → Type 0) → ByExponent P → (text : List ℕ) (o : Option Numbers) → WritesNumber text o → P text
 by_exponent P p text _ (writes front exponent ds es k d e) = with_exponent P p front ds es d exponent k e (has_letter exponent k e)
 
 pub number_cases : (P : List ℕ → Type 0) → ByExponent P → (text : List ℕ) → IsDecimalText text → P text

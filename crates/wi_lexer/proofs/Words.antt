@@ -19,7 +19,7 @@ pub use Rattle.wi_fraction.proofs.Scanning.{digits_before, digits_same, own}
 pub use Rattle.wi_fraction.proofs.Written.{capital_from_letter, letter_from_capital, letter_no_digit, letter_no_point}
 pub use Rattle.wi_fraction.specs.Inner.Signs.{is_exponent_letter}
 pub use Rattle.wi_fraction.specs.Spelled.{IsSign, WritesDigits, minus, no_sign, plain, plus, point}
-pub use Rattle.wi_fraction.specs.Written.{IsDecimalText, Writes, WritesExponent, none, power, writes}
+pub use Rattle.wi_fraction.specs.Written.{IsDecimalText, WritesNumber, WritesExponent, none, power, writes}
 pub use Rattle.wi_lexer.specs.Cell.{WrittenCell, IsCell, cell_text, dollar}
 pub use Rattle.wi_lexer.specs.Inner.Cell.{after_dollar, begins_with_dollar, cut, cut_column, cut_row, dollar_len, if_cell, is_cell, is_row, past_dollar}
 unfoldable pub use Rattle.wi_lexer.specs.Inner.Cell.{cell_len, cell_of, column_len, row_len}

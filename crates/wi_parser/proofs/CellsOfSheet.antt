@@ -1,5 +1,5 @@
 -- The cell of a reference in the sheet is written with its column and row, which stand for its address.
-use Rattle.wi_parser.proofs.Words.{◌≡◌, ℕ, ◌+◌, ◌*◌, ◌<◌, ◌^◌, Bool, true, false, ◌&&◌, nat_lt, List, [], ◌∷◌, ◌++◌, length, Option, Some, None, Ok, Err, ok_or, option_map, if◌then◌else◌, refl, ap, arith, nat_tests, decimal_is_IsNumeral, first_decimal, take-append_seam, drop-append_seam, is_ascii_alphabetic, is_ascii_digit, decimal, list_all, prefix_len, and_parts, columns, rows, row_of, column_of, column_letters, address_text, is_row_number, address_at, read_address, Shape, Outside, addresses_read_back, column_are_letters, column_some, IsRunOf, IsCell, run_stops, run_more, cell_from_runs, digits_run, Reference, cell_named, in_sheet, reference_to}
+use Rattle.wi_parser.proofs.Words.{◌≡◌, ℕ, ◌+◌, ◌*◌, ◌<◌, ◌^◌, Bool, true, false, ◌&&◌, nat_lt, List, [], ◌∷◌, ◌++◌, length, Option, Some, None, Ok, Err, ok_or, option_map, if◌then◌else◌, refl, ap, arith, nat_tests, decimal_is_IsNumeral, first_decimal, take-append_seam, drop-append_seam, is_ascii_alphabetic, is_ascii_digit, decimal, list_all, prefix_len, and_parts, columns, rows, row_of, column_of, column_letters, address_text, is_row_number, address_at, read_address, Shape, Outside, addresses_read_back, column_are_letters, column_some, IsRunOf, IsCell, run_stops, run_more, cell_from_runs, digits_run, Reference, written_cell, in_sheet, reference_to}
 
 -- ---- the column, and the row
 
@@ -20,10 +20,10 @@ inside r e = grind (arith, nat_tests)
 row_inside : (a : ℕ) → a < rows * columns → row_of a < rows
 row_inside a h = omega arith
 
-pub cell_is : (r : Reference) → in_sheet r ≡ true → IsCell (cell_named r)
+pub cell_is : (r : Reference) → in_sheet r ≡ true → IsCell (written_cell r)
 cell_is r e =
     let row = row_inside r.at (inside r e) in
-    cell_from_runs (cell_named r) (column_is (column_of r.at)) (row_is (row_of r.at) row) (first_decimal (row_of r.at + 1) (omega arith) (short (row_of r.at) row))
+    cell_from_runs (written_cell r) (column_is (column_of r.at)) (row_is (row_of r.at) row) (first_decimal (row_of r.at + 1) (omega arith) (short (row_of r.at) row))
 
 no_letters : (ds : List ℕ) → IsRunOf is_ascii_digit ds → prefix_len is_ascii_alphabetic ds ≡ 0
 no_letters [] run = refl
@@ -50,6 +50,6 @@ unfolding address_text
 address_there a h = read_parts (column_letters (column_of a)) (decimal (row_of a + 1)) a (column_is (column_of a)) (row_is (row_of a) (row_inside a h)) (addresses_read_back a h)
 
 -- the cell as it is written means the reference
-pub cell_means : (r : Reference) → in_sheet r ≡ true → reference_to (cell_named r) ≡ Some r
+pub cell_means : (r : Reference) → in_sheet r ≡ true → reference_to (written_cell r) ≡ Some r
 cell_means r e =
     ap (option_map (λ a. record { at = a; column_is_absolute = r.column_is_absolute; row_is_absolute = r.row_is_absolute })) (address_there r.at (inside r e))

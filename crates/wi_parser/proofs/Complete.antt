@@ -1,23 +1,23 @@
 -- What is spelled is found, whatever follows that cannot go on with it.
-use Rattle.wi_parser.proofs.Words.{◌≡◌, ℕ, zero, suc, ◌+◌, ◌-◌, ◌<◌, ◌≤◌, max, cond, List, [], ◌∷◌, ◌++◌, length, Some, None, option_and_then, refl, sym, ap, ◌∙◌, arith, append_assoc, append-nil, length-append, ne_eqb, eq-eqb, Number, Corners, Operator, Reference, Sign, Plus, Minus, Tree, number, cell, rectangle, parenthesized, signed, percent, binary, what_if, Trees, text, call, no_trees, more_trees, Symbol, numeral, reference, corners, open_parenthesis, close_parenthesis, infix_mark, sign_mark, percent_mark, text_literal, separator, name, line_of, pair_symbols, what_if_symbols, loosest, Spells, a_number, a_cell, a_rectangle, in_parentheses, one_input, two_inputs, with_sign, with_percent, tighter, joined, SpellsAll, SpellsMore, a_text, a_call, no_parameter, parameters, last_parameter, another_parameter, Parse, read_then, then_close, after_percent, operator_at, pair_at, what_if_at, atom, signed_read, prefixed, percents, chain, line, expression, if_last, whole, after_close, put_first, more_parameters, parameters_at, as_call, depth, greatest_depth}
+use Rattle.wi_parser.proofs.Words.{◌≡◌, ℕ, zero, suc, ◌+◌, ◌-◌, ◌<◌, ◌≤◌, max, cond, List, [], ◌∷◌, ◌++◌, length, Some, None, option_and_then, refl, sym, ap, ◌∙◌, arith, append_assoc, append-nil, length-append, ne_eqb, eq-eqb, Number, Corners, Operator, Reference, Sign, Plus, Minus, Tree, number, cell, rectangle, parenthesized, signed, percent, binary, what_if, Trees, text, call, no_trees, more_trees, Symbol, numeral, reference, corners, open_parenthesis, close_parenthesis, infix_mark, sign_mark, percent_mark, text_literal, separator, name, level_of, pair_symbols, what_if_symbols, loosest, Spells, a_number, a_cell, a_rectangle, in_parentheses, one_input, two_inputs, with_sign, with_percent, tighter, joined, SpellsAll, SpellsMore, a_text, a_call, no_parameter, parameters, last_parameter, another_parameter, Parse, read_then, then_close, after_percent, operator_at, pair_at, what_if_at, atom, signed_read, prefixed, percents, chain, level, expression, if_last, whole, after_close, put_first, more_parameters, parameters_at, as_call, depth, greatest_depth}
 use Rattle.wi_parser.proofs.Marks.{from_powers}
 use Rattle.wi_parser.proofs.Turns.{percents_stop, chain_stop, chain_more}
 use Rattle.wi_parser.proofs.Parameters.{parameters_first, more_last, more_again}
 
--- no percent mark and no operator of the lines up to k stands first
+-- no percent mark and no operator of the levels up to k stands first
 abbrev pub Stops : ℕ → List Symbol → Type 0
 Stops zero rest = Unit {0}
 Stops (suc zero) rest = Unit {0}
 Stops (suc (suc zero)) rest = after_percent rest ≡ None
 Stops (suc (suc (suc k))) rest = Stops (suc (suc k)) rest × (operator_at (suc (suc (suc k))) rest ≡ None)
 
--- an operator of a looser line stops
-stops_at : (k : ℕ) (op : Operator) (ts : List Symbol) → k < line_of op → Stops k (infix_mark op ∷ ts)
+-- an operator of a looser level stops
+stops_at : (k : ℕ) (op : Operator) (ts : List Symbol) → k < level_of op → Stops k (infix_mark op ∷ ts)
 stops_at zero op ts h = tt
 stops_at (suc zero) op ts h = tt
 stops_at (suc (suc zero)) op ts h = refl
 stops_at (suc (suc (suc k))) op ts h =
-    (stops_at (suc (suc k)) op ts (omega arith), ap (λ b. cond b (Some (op, ts)) None) (ne_eqb (line_of op) (suc (suc (suc k))) (λ e. omega arith)))
+    (stops_at (suc (suc k)) op ts (omega arith), ap (λ b. cond b (Some (op, ts)) None) (ne_eqb (level_of op) (suc (suc (suc k))) (λ e. omega arith)))
 
 -- nothing that goes on stands there
 ended : Stops loosest []
@@ -50,18 +50,18 @@ stops_after : {all : Trees} {us : List Symbol} (rest : List Symbol) → SpellsMo
 stops_after rest last_parameter = closed rest
 stops_after rest (another_parameter t all ts us s u) = separated ((ts ++ us) ++ rest)
 
-pub operator_here : (k : ℕ) (op : Operator) (ts : List Symbol) → line_of op ≡ k → operator_at k (infix_mark op ∷ ts) ≡ Some (op, ts)
-operator_here k op ts e = ap (λ b. cond b (Some (op, ts)) None) (eq-eqb (line_of op) k e)
+pub operator_here : (k : ℕ) (op : Operator) (ts : List Symbol) → level_of op ≡ k → operator_at k (infix_mark op ∷ ts) ≡ Some (op, ts)
+operator_here k op ts e = ap (λ b. cond b (Some (op, ts)) None) (eq-eqb (level_of op) k e)
 
 abbrev Taken : ℕ → ℕ → Tree → List Symbol → Type 0
-Taken d k t us = (rest : List Symbol) → Stops k rest → line (expression d) k (us ++ rest) ≡ Some (t, rest)
+Taken d k t us = (rest : List Symbol) → Stops k rest → level (expression d) k (us ++ rest) ≡ Some (t, rest)
 
 -- The leftmost operand is found first, and n turns of the loop lead from it to t.
 record Turns (d k n : ℕ) (t : Tree) (us rest : List Symbol) : Type 0 where
   first : Tree
   after : List Symbol
-  found : line (expression d) k (us ++ rest) ≡ Some (first, after)
-  led : (m : ℕ) → chain (line (expression d) k) (suc k) (m + n) first after ≡ chain (line (expression d) k) (suc k) m t rest
+  found : level (expression d) k (us ++ rest) ≡ Some (first, after)
+  led : (m : ℕ) → chain (level (expression d) k) (suc k) (m + n) first after ≡ chain (level (expression d) k) (suc k) m t rest
   space : length rest + n ≤ length after
 
 abbrev Spine : ℕ → ℕ → Tree → List Symbol → Type 0
@@ -69,19 +69,19 @@ Spine d k t us = (n : ℕ) × ((rest : List Symbol) → Stops k rest → Turns d
 
 -- whatever follows
 abbrev Always : ℕ → ℕ → Tree → List Symbol → Type 0
-Always d k t us = (rest : List Symbol) → line (expression d) k (us ++ rest) ≡ Some (t, rest)
+Always d k t us = (rest : List Symbol) → level (expression d) k (us ++ rest) ≡ Some (t, rest)
 
 abbrev Claim : ℕ → ℕ → Tree → List Symbol → Type 0
 Claim d zero t us = Always d 0 t us
 Claim d (suc zero) t us = Always d 1 t us
-Claim d (suc (suc zero)) t us = (rest : List Symbol) → line (expression d) 2 (us ++ rest) ≡ percents t rest
+Claim d (suc (suc zero)) t us = (rest : List Symbol) → level (expression d) 2 (us ++ rest) ≡ percents t rest
 Claim d (suc (suc (suc k))) t us = Spine d (suc (suc k)) t us
 
 -- the loop goes its turns and stops
-led_on : (d k n : ℕ) (t : Tree) (us rest : List Symbol) → Turns d (suc (suc k)) n t us rest → operator_at (suc (suc (suc k))) rest ≡ None → line (expression d) (suc (suc (suc k))) (us ++ rest) ≡ Some (t, rest)
-unfolding line
+led_on : (d k n : ℕ) (t : Tree) (us rest : List Symbol) → Turns d (suc (suc k)) n t us rest → operator_at (suc (suc (suc k))) rest ≡ None → level (expression d) (suc (suc (suc k))) (us ++ rest) ≡ Some (t, rest)
+unfolding level
 led_on d k n t us rest turns h =
-    let next = line (expression d) (suc (suc k)) in
+    let next = level (expression d) (suc (suc k)) in
     let looser = suc (suc (suc k)) in
     let m = length turns.after - n in
     let all_turns : length turns.after ≡ m + n = omega (arith, turns.space) in
@@ -108,23 +108,23 @@ one_operand d k t us c = (
     first = t;
     after = rest;
     found = c rest stops;
-    led = λ m. let same : m + 0 ≡ m = omega arith in ap (λ j. chain (line (expression d) k) (suc k) j t rest) same;
+    led = λ m. let same : m + 0 ≡ m = omega arith in ap (λ j. chain (level (expression d) k) (suc k) j t rest) same;
     space = omega arith;
   },
 )
 
 one_line : (d k : ℕ) (t : Tree) (us : List Symbol) → Claim d k t us → Claim d (suc k) t us
-unfolding line
+unfolding level
 one_line d zero t us c = λ rest. unsigned (expression d) (us ++ rest) (t, rest) (c rest)
 one_line d (suc zero) t us c = λ rest. ap (read_then percents) (c rest)
 one_line d (suc (suc k)) t us c = one_operand d (suc (suc k)) t us (taken d (suc (suc k)) t us c)
 
 -- one more operand
-one_more : (d k : ℕ) (op : Operator) (l r : Tree) (ls rs : List Symbol) → line_of op ≡ suc k → Spine d k l ls → Taken d k r rs → Spine d k (binary op l r) (ls ++ infix_mark op ∷ rs)
+one_more : (d k : ℕ) (op : Operator) (l r : Tree) (ls rs : List Symbol) → level_of op ≡ suc k → Spine d k l ls → Taken d k r rs → Spine d k (binary op l r) (ls ++ infix_mark op ∷ rs)
 one_more d k op l r ls rs e left right = (
   suc left.0,
   λ rest stops.
-      let next = line (expression d) k in
+      let next = level (expression d) k in
       let tail : List Symbol = infix_mark op ∷ rs ++ rest in
       let before = left.1 tail (stops_at k op (rs ++ rest) (omega arith)) in
       record {
@@ -141,18 +141,18 @@ one_more d k op l r ls rs e left right = (
       },
 )
 
-joins : (d k : ℕ) (op : Operator) (l r : Tree) (ls rs : List Symbol) → line_of op ≡ suc k → Claim d (suc k) l ls → Taken d k r rs → Claim d (suc k) (binary op l r) (ls ++ infix_mark op ∷ rs)
+joins : (d k : ℕ) (op : Operator) (l r : Tree) (ls rs : List Symbol) → level_of op ≡ suc k → Claim d (suc k) l ls → Taken d k r rs → Claim d (suc k) (binary op l r) (ls ++ infix_mark op ∷ rs)
 joins d zero op l r ls rs e left right = absurd (omega (arith, from_powers op))
 joins d (suc zero) op l r ls rs e left right = absurd (omega (arith, from_powers op))
 joins d (suc (suc k)) op l r ls rs e left right = one_more d (suc (suc k)) op l r ls rs e left right
 
 sign_taken : (d : ℕ) (s : Sign) (t : Tree) (ts : List Symbol) → Claim d 1 t ts → Claim d 1 (signed s t) (sign_mark s ∷ ts)
-unfolding line
+unfolding level
 sign_taken d Plus t ts c rest = ap (signed_read Plus) (c rest)
 sign_taken d Minus t ts c rest = ap (signed_read Minus) (c rest)
 
 percent_taken : (d : ℕ) (t : Tree) (ts : List Symbol) → Claim d 2 t ts → Claim d 2 (percent t) (ts ++ percent_mark ∷ [])
-percent_taken d t ts c rest = ap (line (expression d) 2) (append_assoc ts (percent_mark ∷ []) rest) ∙ c (percent_mark ∷ rest)
+percent_taken d t ts c rest = ap (level (expression d) 2) (append_assoc ts (percent_mark ∷ []) rest) ∙ c (percent_mark ∷ rest)
 
 -- parentheses nest one deeper
 inner_taken : (d : ℕ) (t : Tree) (us rest : List Symbol) → Taken d loosest t us → Stops loosest rest → expression (suc d) (us ++ rest) ≡ Some (t, rest)
@@ -160,33 +160,33 @@ unfolding expression
 inner_taken d t us rest c stops = c rest stops
 
 marks_taken : (d : ℕ) (t : Tree) (ts : List Symbol) → Taken d loosest t ts → Always (suc d) 0 (parenthesized t) (open_parenthesis ∷ ts ++ close_parenthesis ∷ [])
-unfolding line atom
+unfolding level atom
 marks_taken d t ts c rest =
     ap (λ l. read_then (λ u. then_close (parenthesized u)) (expression (suc d) l)) (append_assoc ts (close_parenthesis ∷ []) rest)
     ∙ ap (read_then (λ u. then_close (parenthesized u))) (inner_taken d t ts (close_parenthesis ∷ rest) c (closed rest))
 
 number_taken : (d : ℕ) (x : Number) → Always d 0 (number x) (numeral x ∷ [])
-unfolding line atom
+unfolding level atom
 number_taken d x rest = refl
 
 cell_taken : (d : ℕ) (r : Reference) → Always d 0 (cell r) (reference r ∷ [])
-unfolding line atom
+unfolding level atom
 cell_taken d r rest = refl
 
 rectangle_taken : (d : ℕ) (c : Corners) → Always d 0 (rectangle c) (corners c ∷ [])
-unfolding line atom
+unfolding level atom
 rectangle_taken d c rest = refl
 
 one_taken : (d : ℕ) (f : Reference) (p : Reference × Reference) → Always d 0 (what_if f (p ∷ [])) (what_if_symbols f (pair_symbols p))
-unfolding line atom what_if_at pair_at
+unfolding level atom what_if_at pair_at
 one_taken d f p rest = refl
 
 two_taken : (d : ℕ) (f : Reference) (p q : Reference × Reference) → Always d 0 (what_if f (p ∷ q ∷ [])) (what_if_symbols f (pair_symbols p ++ pair_symbols q))
-unfolding line atom what_if_at pair_at
+unfolding level atom what_if_at pair_at
 two_taken d f p q rest = refl
 
 text_taken : (d : ℕ) (s : List ℕ) → Always d 0 (text s) (text_literal s ∷ [])
-unfolding line atom
+unfolding level atom
 text_taken d s rest = refl
 
 -- ---- calls
@@ -221,7 +221,7 @@ another_taken d t all ts us u one others n rest space =
     ∙ ap (put_first t) (others (n - 1) rest (omega arith))
 
 call_taken : (d : ℕ) (f : List ℕ) (all : Trees) (ts : List Symbol) → AllTaken d all ts → Always d 0 (call f all) (name f ∷ open_parenthesis ∷ ts)
-unfolding line atom
+unfolding level atom
 call_taken d f all ts c rest = ap (as_call f) (c rest)
 
 mutual

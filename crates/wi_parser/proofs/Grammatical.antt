@@ -1,12 +1,12 @@
--- The lines of the grammar spell the grammatical trees, each as its spelling.
-use Rattle.wi_parser.proofs.Words.{◌≡◌, ◌↔◌, ℕ, zero, suc, ◌-◌, ◌≤◌, Bool, true, false, nat_le, List, [], ◌∷◌, refl, sym, subst, arith, nat_tests, Operator, Power, line_of, tree_line, IsGrammatical, AreGrammatical, loosest, Spells, SpellsAll, SpellsMore, a_number, a_text, a_cell, a_rectangle, in_parentheses, one_input, two_inputs, a_call, with_sign, with_percent, tighter, joined, no_parameter, parameters, last_parameter, another_parameter, spelling, spelling_of_all, spelling_of_more, IsSpelling, Symbol, Tree, Trees, number, text, cell, rectangle, parenthesized, signed, percent, binary, what_if, call, no_trees, more_trees}
+-- The levels of the grammar spell the grammatical trees, each as its spelling.
+use Rattle.wi_parser.proofs.Words.{◌≡◌, ◌↔◌, ℕ, zero, suc, ◌-◌, ◌≤◌, Bool, true, false, nat_le, List, [], ◌∷◌, refl, sym, subst, arith, nat_tests, Operator, Power, level_of, tree_level, IsGrammatical, AreGrammatical, loosest, Spells, SpellsAll, SpellsMore, a_number, a_text, a_cell, a_rectangle, in_parentheses, one_input, two_inputs, a_call, with_sign, with_percent, tighter, joined, no_parameter, parameters, last_parameter, another_parameter, spelling, spelling_of_all, spelling_of_more, IsSpelling, Symbol, Tree, Trees, number, text, cell, rectangle, parenthesized, signed, percent, binary, what_if, call, no_trees, more_trees}
 use Rattle.wi_parser.proofs.Marks.{from_powers}
 use Rattle.wi_parser.proofs.OneSpelling.{spelled}
 
--- ---- what a line spells is grammatical, and of that line or a tighter one
+-- ---- what a level spells is grammatical, and of that level or a tighter one
 
 mutual
-  grammatical : {k : ℕ} {t : Tree} {ts : List Symbol} → Spells k t ts → (tree_line t ≤ k) × IsGrammatical t
+  grammatical : {k : ℕ} {t : Tree} {ts : List Symbol} → Spells k t ts → (tree_level t ≤ k) × IsGrammatical t
   grammatical (a_number x) = (omega arith, tt)
   grammatical (a_text s) = (omega arith, tt)
   grammatical (a_cell r) = (omega arith, tt)
@@ -31,14 +31,14 @@ mutual
   more_grammatical last_parameter = tt
   more_grammatical (another_parameter t all ts us s u) = ((grammatical s).1, more_grammatical u)
 
--- ---- each grammatical tree is spelled by its line, and so by each looser one
+-- ---- each grammatical tree is spelled by its level, and so by each looser one
 
-line_within : (op : Operator) → line_of op ≤ loosest
-line_within Power = omega arith
-line_within op = omega arith
+level_within : (op : Operator) → level_of op ≤ loosest
+level_within Power = omega arith
+level_within op = omega arith
 
-tree_within : (t : Tree) → tree_line t ≤ loosest
-tree_within (binary op l r) = line_within op
+tree_within : (t : Tree) → tree_level t ≤ loosest
+tree_within (binary op l r) = level_within op
 tree_within (signed s t) = omega arith
 tree_within (percent t) = omega arith
 tree_within t = omega arith
@@ -51,39 +51,39 @@ looser (suc k) j t ts h s = by (nat_le j k) refl (λ l. looser k j t ts l s)
     by true e next = let l : j ≤ k = grind (arith, nat_tests, e) in tighter k t ts (next l)
     by false e next = let f : j ≡ suc k = grind (arith, nat_tests, e, h) in subst (λ i. Spells i t ts) f s
 
-any_line : (t : Tree) → Spells (tree_line t) t (spelling t) → Spells loosest t (spelling t)
-any_line t s = looser loosest (tree_line t) t (spelling t) (tree_within t) s
+any_level : (t : Tree) → Spells (tree_level t) t (spelling t) → Spells loosest t (spelling t)
+any_level t s = looser loosest (tree_level t) t (spelling t) (tree_within t) s
 
 mutual
-  its_line : (t : Tree) → IsGrammatical t → Spells (tree_line t) t (spelling t)
-  its_line (number x) g = a_number x
-  its_line (text s) g = a_text s
-  its_line (cell r) g = a_cell r
-  its_line (rectangle c) g = a_rectangle c
-  its_line (parenthesized t) g = in_parentheses t (spelling t) (any_line t (its_line t g))
-  its_line (signed s t) g = with_sign s t (spelling t) (looser 1 (tree_line t) t (spelling t) g.0 (its_line t g.1))
-  its_line (percent t) g = with_percent t (spelling t) (looser 2 (tree_line t) t (spelling t) g.0 (its_line t g.1))
-  its_line (binary op l r) g =
-      let k = line_of op - 1 in
-      let e : line_of op ≡ suc k = omega (arith, from_powers op) in
-      let left : tree_line l ≤ suc k = omega (arith, e, g.0) in
-      let right : tree_line r ≤ k = omega (arith, e, g.2) in
+  its_level : (t : Tree) → IsGrammatical t → Spells (tree_level t) t (spelling t)
+  its_level (number x) g = a_number x
+  its_level (text s) g = a_text s
+  its_level (cell r) g = a_cell r
+  its_level (rectangle c) g = a_rectangle c
+  its_level (parenthesized t) g = in_parentheses t (spelling t) (any_level t (its_level t g))
+  its_level (signed s t) g = with_sign s t (spelling t) (looser 1 (tree_level t) t (spelling t) g.0 (its_level t g.1))
+  its_level (percent t) g = with_percent t (spelling t) (looser 2 (tree_level t) t (spelling t) g.0 (its_level t g.1))
+  its_level (binary op l r) g =
+      let k = level_of op - 1 in
+      let e : level_of op ≡ suc k = omega (arith, from_powers op) in
+      let left : tree_level l ≤ suc k = omega (arith, e, g.0) in
+      let right : tree_level r ≤ k = omega (arith, e, g.2) in
       subst (λ n. Spells n (binary op l r) (spelling (binary op l r))) (sym e)
-      (joined k op l r (spelling l) (spelling r) e (looser (suc k) (tree_line l) l (spelling l) left (its_line l g.1)) (looser k (tree_line r) r (spelling r) right (its_line r g.3)))
-  its_line (what_if f []) g = absurd (omega (arith, g.0))
-  its_line (what_if f (p ∷ [])) g = one_input f p
-  its_line (what_if f (p ∷ q ∷ [])) g = two_inputs f p q
-  its_line (what_if f (p ∷ q ∷ x ∷ xs)) g = absurd (omega (arith, g.1))
-  its_line (call f ts) g = a_call f ts (spelling_of_all ts) (all_lines ts g)
+      (joined k op l r (spelling l) (spelling r) e (looser (suc k) (tree_level l) l (spelling l) left (its_level l g.1)) (looser k (tree_level r) r (spelling r) right (its_level r g.3)))
+  its_level (what_if f []) g = absurd (omega (arith, g.0))
+  its_level (what_if f (p ∷ [])) g = one_input f p
+  its_level (what_if f (p ∷ q ∷ [])) g = two_inputs f p q
+  its_level (what_if f (p ∷ q ∷ x ∷ xs)) g = absurd (omega (arith, g.1))
+  its_level (call f ts) g = a_call f ts (spelling_of_all ts) (all_lines ts g)
 
   all_lines : (ts : Trees) → AreGrammatical ts → SpellsAll ts (spelling_of_all ts)
   all_lines no_trees g = no_parameter
-  all_lines (more_trees t ts) g = parameters t ts (spelling t) (spelling_of_more ts) (any_line t (its_line t g.0)) (more_lines ts g.1)
+  all_lines (more_trees t ts) g = parameters t ts (spelling t) (spelling_of_more ts) (any_level t (its_level t g.0)) (more_lines ts g.1)
 
   more_lines : (ts : Trees) → AreGrammatical ts → SpellsMore ts (spelling_of_more ts)
   more_lines no_trees g = last_parameter
-  more_lines (more_trees t ts) g = another_parameter t ts (spelling t) (spelling_of_more ts) (any_line t (its_line t g.0)) (more_lines ts g.1)
+  more_lines (more_trees t ts) g = another_parameter t ts (spelling t) (spelling_of_more ts) (any_level t (its_level t g.0)) (more_lines ts g.1)
 
--- the lines spell what is grammatical as its spelling, and nothing else
+-- the levels spell what is grammatical as its spelling, and nothing else
 pub spelling_exactly : (t : Tree) (ts : List Symbol) → IsSpelling t ts ↔ Spells loosest t ts
-spelling_exactly t ts = (λ s. subst (Spells loosest t) (sym s.1) (any_line t (its_line t s.0)), λ s. ((grammatical s).1, spelled s))
+spelling_exactly t ts = (λ s. subst (Spells loosest t) (sym s.1) (any_level t (its_level t s.0)), λ s. ((grammatical s).1, spelled s))

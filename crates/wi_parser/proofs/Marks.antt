@@ -1,5 +1,5 @@
 -- What stands first, where one symbol is looked for.
-use Rattle.wi_parser.proofs.Words.{◌≡◌, ℕ, ◌+◌, ◌≤◌, ◌==◌, nat_le, List, [], ◌∷◌, ◌++◌, length, Option, Some, None, option_map, refl, sym, ap, ◌∙◌, subst, arith, eqb-true, leb-true, cond_some, then_some, Operator, Add, Subtract, Power, Reference, Sign, Plus, Minus, Symbol, reference, open_parenthesis, close_parenthesis, separator, infix_mark, sign_mark, percent_mark, line_of, pair_symbols, after_open, after_close, after_separator, after_percent, reference_at, sign_of, sign_at, operator_at, operator_within, parameter_at, pair_at}
+use Rattle.wi_parser.proofs.Words.{◌≡◌, ℕ, ◌+◌, ◌≤◌, ◌==◌, nat_le, List, [], ◌∷◌, ◌++◌, length, Option, Some, None, option_map, refl, sym, ap, ◌∙◌, subst, arith, eqb-true, leb-true, cond_some, then_some, Operator, Add, Subtract, Power, Reference, Sign, Plus, Minus, Symbol, reference, open_parenthesis, close_parenthesis, separator, infix_mark, sign_mark, percent_mark, level_of, pair_symbols, after_open, after_close, after_separator, after_percent, reference_at, sign_of, sign_at, operator_at, operator_within, parameter_at, pair_at}
 
 pub open_is : (ts us : List Symbol) → after_open ts ≡ Some us → ts ≡ open_parenthesis ∷ us
 open_is [] us h = cc
@@ -31,26 +31,26 @@ reference_is [] p h = cc
 reference_is (reference r ∷ ts) p h = cc
 reference_is (s ∷ ts) p h = cc
 
-pub operator_is : (k : ℕ) (ts us : List Symbol) (op : Operator) → operator_at k ts ≡ Some (op, us) → (line_of op ≡ k) × (ts ≡ infix_mark op ∷ us)
+pub operator_is : (k : ℕ) (ts us : List Symbol) (op : Operator) → operator_at k ts ≡ Some (op, us) → (level_of op ≡ k) × (ts ≡ infix_mark op ∷ us)
 operator_is k [] us op h = cc
 operator_is k (infix_mark o ∷ ts) us op h =
-    let p = cond_some (line_of o == k) (o, ts) (op, us) h in
+    let p = cond_some (level_of o == k) (o, ts) (op, us) h in
     let same : o ≡ op = ap (λ q. q.0) p.1 in
     let rest : ts ≡ us = ap (λ q. q.1) p.1 in
-    (sym (ap line_of same) ∙ eqb-true (line_of o) k p.0, cc)
+    (sym (ap level_of same) ∙ eqb-true (level_of o) k p.0, cc)
 operator_is k (s ∷ ts) us op h = cc
 
-pub within_is : (k : ℕ) (ts us : List Symbol) (op : Operator) → operator_within k ts ≡ Some (op, us) → (line_of op ≤ k) × (ts ≡ infix_mark op ∷ us)
+pub within_is : (k : ℕ) (ts us : List Symbol) (op : Operator) → operator_within k ts ≡ Some (op, us) → (level_of op ≤ k) × (ts ≡ infix_mark op ∷ us)
 within_is k [] us op h = cc
 within_is k (infix_mark o ∷ ts) us op h =
-    let p = cond_some (nat_le (line_of o) k) (o, ts) (op, us) h in
+    let p = cond_some (nat_le (level_of o) k) (o, ts) (op, us) h in
     let same : o ≡ op = ap (λ q. q.0) p.1 in
     let rest : ts ≡ us = ap (λ q. q.1) p.1 in
-    (subst (λ q. line_of q ≤ k) same (leb-true (line_of o) k p.0), cc)
+    (subst (λ q. level_of q ≤ k) same (leb-true (level_of o) k p.0), cc)
 within_is k (s ∷ ts) us op h = cc
 
--- no line tighter than powers has an operator
-pub from_powers : (op : Operator) → 3 ≤ line_of op
+-- no level tighter than powers has an operator
+pub from_powers : (op : Operator) → 3 ≤ level_of op
 from_powers Power = omega arith
 from_powers op = omega arith
 

@@ -1,5 +1,5 @@
 -- A text means a symbol where it is a token that stands for it.
-use Rattle.wi_parser.proofs.Words.{◌≡◌, ◌↔◌, ℕ, ◌⊎◌, inl, inr, List, Option, Some, None, refl, sym, ap, ap₂, ◌∙◌, subst, Number as Numbers, read_decimal, Writes, IsDecimalText, reads_what_is_written, quoted, Kind, Text, Rectangle, Mark, Name, OpenParenthesis, CloseParenthesis, Semicolon, Asterisk, Slash, Caret, Percent, Ampersand, Equal, NotEqual, Less, LessOrEqual, Greater, GreaterOrEqual, WrittenCell, IsCell, mark_text, IsRectangle, two_cells, rectangle_text, IsReference, one_cell, reference_text, IsText, of_content, IsToken, reference_of_complete, rectangle_of_complete, text_reads_back, Operator, OutOfSheet, number_symbol, cell_symbol, reference_symbol, corners_symbol, rectangle_symbol, mark_symbol, symbol_of, reference_to, operator_text, Symbol, text_literal, bad_token, infix_mark, Means}
+use Rattle.wi_parser.proofs.Words.{◌≡◌, ◌↔◌, ℕ, ◌⊎◌, inl, inr, List, Option, Some, None, refl, sym, ap, ap₂, ◌∙◌, subst, Number as Numbers, read_decimal, WritesNumber, IsDecimalText, reads_what_is_written, quoted, Kind, Text, Rectangle, Mark, Name, OpenParenthesis, CloseParenthesis, Semicolon, Asterisk, Slash, Caret, Percent, Ampersand, Equal, NotEqual, Less, LessOrEqual, Greater, GreaterOrEqual, WrittenCell, IsCell, mark_text, IsRectangle, two_cells, rectangle_text, IsReference, one_cell, reference_text, IsText, of_content, IsToken, reference_of_complete, rectangle_of_complete, text_reads_back, Operator, OutOfSheet, number_symbol, cell_symbol, reference_symbol, corners_symbol, rectangle_symbol, mark_symbol, symbol_of, reference_to, operator_text, Symbol, text_literal, bad_token, infix_mark, Means}
 use Rattle.wi_lexer.specs.declared.token.Kind.TheVariants.{Number, Reference}
 use Rattle.wi_lexer.specs.declared.token.Mark as mark
 use Rattle.wi_lexer.specs.declared.token.Mark.TheVariants.{Plus, Minus}
@@ -14,7 +14,7 @@ use Rattle.wi_parser.specs.Symbol.{close_parenthesis, corners, name, numeral, op
 
 -- ---- a token means what it stands for
 
-value_means : (text : List ℕ) (o : Option Numbers) → Writes text o → Means text (number_symbol o)
+value_means : (text : List ℕ) (o : Option Numbers) → WritesNumber text o → Means text (number_symbol o)
 value_means text None w = w
 value_means text (Some x) w = w
 

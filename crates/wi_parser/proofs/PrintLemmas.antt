@@ -1,5 +1,5 @@
 -- What is appended to a text that must stay at the front.
-use Rattle.wi_parser.proofs.Words.{◌≡◌, refl, ℕ, List, ◌++◌, sym, ap, ◌∙◌, [], ◌∷◌, append_assoc, map, codes, cond, Result, Ok, Err, is_ok, OnOk, append-nil, subst, starts_with_of_append, flat_map, StartsWith, reference_text, Expr, Operator, Pair, Reference, pair_symbols, spelling, spelling_of_more, Tree, Trees, parenthesized, percent, binary, what_if, no_trees, more_trees, Symbol, close_parenthesis, infix_mark, percent_mark, tree_of, all_of, pair_of, cell_named, operator_text, symbol_text, symbols_text, tree_text, pairs_text}
+use Rattle.wi_parser.proofs.Words.{◌≡◌, refl, ℕ, List, ◌++◌, sym, ap, ◌∙◌, [], ◌∷◌, append_assoc, map, codes, cond, Result, Ok, Err, is_ok, OnOk, append-nil, subst, starts_with_of_append, flat_map, StartsWith, reference_text, Expr, Operator, Pair, Reference, pair_symbols, spelling, spelling_of_more, Tree, Trees, parenthesized, percent, binary, what_if, no_trees, more_trees, Symbol, close_parenthesis, infix_mark, percent_mark, tree_of, all_of, pair_of, written_cell, operator_text, symbol_text, symbols_text, tree_text, pairs_text}
 pub use Rattle.std.proofs.Transfers.{starts_with_trans}
 use Rattle.std.proofs.lemmas.List.Concat.{flat_map-append}
 pub use Rattle.wi_fraction.proofs.Decimals.{starts_itself, starts_more, starts_pushed, cut_place}
@@ -23,12 +23,12 @@ symbols_more xs ys = flat_map-append symbol_text xs ys
 
 -- a what-if, written part by part
 pub what_if_written : {E : Type 0} (r : Result (Unit {0}) E) (f : Reference) (pairs : List Pair) (o a b c d : List ℕ)
-    → a ≡ o ++ codes "MULTIPLE.OPERATIONS(" → b ≡ a ++ reference_text (cell_named f) → c ≡ b ++ pairs_text pairs → d ≡ cond (is_ok r) (c ++ codes ")") c
+    → a ≡ o ++ codes "MULTIPLE.OPERATIONS(" → b ≡ a ++ reference_text (written_cell f) → c ≡ b ++ pairs_text pairs → d ≡ cond (is_ok r) (c ++ codes ")") c
     → OnOk r (d ≡ o ++ tree_text (what_if f (map pair_of pairs)))
 what_if_written (Err e) f pairs o a b c d h k l m = tt
 what_if_written (Ok u) f pairs o a b c d h k l m =
     let name = codes "MULTIPLE.OPERATIONS(" in
-    let cell = reference_text (cell_named f) in
+    let cell = reference_text (written_cell f) in
     let inputs = pairs_text pairs in
     m ∙ ap (λ x. x ++ codes ")") (l ∙ ap (λ x. x ++ inputs) (k ∙ ap (λ x. x ++ cell) h))
     ∙ append_assoc ((o ++ name) ++ cell) inputs (codes ")") ∙ append_assoc (o ++ name) cell (inputs ++ codes ")") ∙ append_assoc o name (cell ++ (inputs ++ codes ")"))

@@ -1,5 +1,5 @@
 -- What the reader finds is spelled so.
-use Rattle.wi_parser.proofs.Words.{◌≡◌, ℕ, zero, suc, List, [], ◌∷◌, ◌++◌, length, Option, Some, None, option_and_then, refl, sym, ap, ◌∙◌, subst, append_assoc, append-nil, same_Some, then_some, Operator, Reference, Sign, Tree, number, cell, rectangle, parenthesized, signed, percent, binary, what_if, Trees, text, call, no_trees, more_trees, Symbol, numeral, reference, corners, open_parenthesis, close_parenthesis, separator, infix_mark, sign_mark, percent_mark, what_if_name, bad_token, text_literal, name, pair_symbols, what_if_symbols, loosest, Spells, a_number, a_cell, a_rectangle, in_parentheses, one_input, two_inputs, with_sign, with_percent, tighter, joined, SpellsAll, SpellsMore, a_text, a_call, no_parameter, parameters, last_parameter, another_parameter, Parse, Read, read_then, then_close, after_open, after_close, reference_at, sign_of, operator_at, pair_at, one_or_two, inputs_at, what_if_at, atom, prefix_step, prefixed, percents, chain, chain_step, line, expression, if_last, whole, ParseAll, after_separator, put_first, and_then_all, after_parameter, unless_closed, more_parameters, first_parameter, parameters_at, called}
+use Rattle.wi_parser.proofs.Words.{◌≡◌, ℕ, zero, suc, List, [], ◌∷◌, ◌++◌, length, Option, Some, None, option_and_then, refl, sym, ap, ◌∙◌, subst, append_assoc, append-nil, same_Some, then_some, Operator, Reference, Sign, Tree, number, cell, rectangle, parenthesized, signed, percent, binary, what_if, Trees, text, call, no_trees, more_trees, Symbol, numeral, reference, corners, open_parenthesis, close_parenthesis, separator, infix_mark, sign_mark, percent_mark, what_if_name, bad_token, text_literal, name, pair_symbols, what_if_symbols, loosest, Spells, a_number, a_cell, a_rectangle, in_parentheses, one_input, two_inputs, with_sign, with_percent, tighter, joined, SpellsAll, SpellsMore, a_text, a_call, no_parameter, parameters, last_parameter, another_parameter, Parse, Read, read_then, then_close, after_open, after_close, reference_at, sign_of, operator_at, pair_at, one_or_two, inputs_at, what_if_at, atom, prefix_step, prefixed, percents, chain, chain_step, level, expression, if_last, whole, ParseAll, after_separator, put_first, and_then_all, after_parameter, unless_closed, more_parameters, first_parameter, parameters_at, called}
 use Rattle.wi_parser.proofs.Marks.{open_is, close_is, reference_is, sign_is, operator_is, pair_is, map_ok, separator_is}
 
 -- ---- what an outcome came from
@@ -18,9 +18,9 @@ then_ok : (f : Tree → Parse) (r : Read) (q : Tree × List Symbol) → read_the
 then_ok f None q h = cc
 then_ok f (Some p) q h = (p, refl, h)
 
--- ---- each line
+-- ---- each level
 
--- what a parser finds is spelled by line k, and the rest follows
+-- what a parser finds is spelled by level k, and the rest follows
 abbrev pub Finds : ℕ → Parse → Type 0
 Finds k p = (ts : List Symbol) (t : Tree) (rest : List Symbol) → p ts ≡ Some (t, rest) → (us : List Symbol) × Spells k t us × (ts ≡ us ++ rest)
 
@@ -204,8 +204,8 @@ module _ (inner : Parse) (sound : Finds loosest inner) where
           let b = again (binary p.0 left found.0.0) (ls ++ infix_mark p.0 ∷ a.0) found.0.1 (joined k p.0 left found.0.0 ls a.0 op.0 s a.1) found.2 in
           (b.0, b.1, ap (λ l. ls ++ l) (op.1 ∙ ap (λ l. infix_mark p.0 ∷ l) a.2) ∙ sym (append_assoc ls (infix_mark p.0 ∷ a.0) found.0.1) ∙ b.2)
 
-  pub line_sound : (k : ℕ) → Finds k (line inner k)
-  unfolding line
+  pub line_sound : (k : ℕ) → Finds k (level inner k)
+  unfolding level
   line_sound zero ts t rest h = atom_sound ts t rest h
   line_sound (suc zero) ts t rest h = prefixed_sound (atom inner) atom_sound ts t rest h
   line_sound (suc (suc zero)) ts t rest h =
@@ -214,7 +214,7 @@ module _ (inner : Parse) (sound : Finds loosest inner) where
       let b = percents_sound first.0.0 a.0 first.0.1 t rest (tighter 1 first.0.0 a.0 a.1) first.2 in
       (b.0, b.1, a.2 ∙ b.2)
   line_sound (suc (suc (suc k))) ts t rest h =
-      let next = line inner (suc (suc k)) in
+      let next = level inner (suc (suc k)) in
       let first = then_ok (λ t rest. chain next (suc (suc (suc k))) (length rest) t rest) (next ts) (t, rest) h in
       let a = line_sound (suc (suc k)) ts first.0.0 first.0.1 first.1 in
       let b = chain_sound next (suc (suc k)) (line_sound (suc (suc k))) _ first.0.0 a.0 first.0.1 t rest (tighter (suc (suc k)) first.0.0 a.0 a.1) first.2 in

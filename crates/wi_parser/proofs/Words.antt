@@ -44,7 +44,7 @@ pub use Rattle.wi_fraction.specs.Number.{Number, max_size}
 pub use Rattle.wi_fraction.specs.Text.{padded, places}
 unfoldable pub use Rattle.wi_fraction.specs.Text.{size_text}
 pub use Rattle.wi_fraction.specs.Spelled.{WritesDigits, plain, point}
-pub use Rattle.wi_fraction.specs.Written.{IsDecimalText, Writes}
+pub use Rattle.wi_fraction.specs.Written.{IsDecimalText, WritesNumber}
 pub use Rattle.wi_fraction.specs.declared.Fraction.{Fraction}
 pub use Rattle.wi_lexer.proofs.CallerLemmas.{found_ahead, next_shortens, token_is, token_shortens, tokens_are, tokens_bad, tokens_end, tokens_next}
 pub use Rattle.wi_lexer.proofs.DecimalLemmas.{SomeDigits}
@@ -86,19 +86,19 @@ pub use Rattle.wi_lexer.specs.declared.token.Kind.TheVariants.{Mark, Name, Recta
 pub use Rattle.wi_lexer.specs.declared.token.Mark.TheVariants.{Ampersand, Asterisk, Caret, CloseParenthesis, Equal, Greater, GreaterOrEqual, Less, LessOrEqual, NotEqual, OpenParenthesis, Percent, Semicolon, Slash}
 pub use Rattle.wi_parser.specs.Capitals.{in_capitals}
 pub use Rattle.wi_parser.specs.Contents.{HasSymbols, IsConstantText, IsContent, IsFormulaText, IsNoFormulaText, IsTextOf, IsTooLong, a_constant, a_formula, a_long_constant, a_long_formula, a_long_text}
-pub use Rattle.wi_parser.specs.Grammar.{AreGrammatical, IsGrammatical, line_of, tree_line}
+pub use Rattle.wi_parser.specs.Grammar.{AreGrammatical, IsGrammatical, level_of, tree_level}
 pub use Rattle.wi_parser.specs.Inner.Answered.{HasFault, IsAnsweredAs, IsFirstFault, faults}
 pub use Rattle.wi_parser.specs.Inner.Deepest.{deepest, most_signs}
 pub use Rattle.wi_parser.specs.Inner.FormulaText.{IsFrontOf, after, after_equals, after_prefix, cell_symbol, corners_symbol, mark_symbol, name_symbol, number_symbol, rectangle_symbol, reference_symbol, symbol_of, symbols_by, symbols_of, symbols_with}
 unfoldable pub use Rattle.wi_parser.specs.Inner.FormulaText.{formula_symbols}
-pub use Rattle.wi_parser.specs.Inner.Lines.{Spells, SpellsAll, SpellsMore, a_call, a_cell, a_number, a_rectangle, a_text, another_parameter, in_parentheses, joined, last_parameter, loosest, no_parameter, one_input, parameters, tighter, two_inputs, with_percent, with_sign}
+pub use Rattle.wi_parser.specs.Inner.Levels.{Spells, SpellsAll, SpellsMore, a_call, a_cell, a_number, a_rectangle, a_text, another_parameter, in_parentheses, joined, last_parameter, loosest, no_parameter, one_input, parameters, tighter, two_inputs, with_percent, with_sign}
 pub use Rattle.wi_parser.specs.Inner.Moves.{all_references, column_moved, leaf_references, map_references, map_references_in, row_moved}
 unfoldable pub use Rattle.wi_parser.specs.Inner.Moves.{moved, stays}
 pub use Rattle.wi_parser.specs.Inner.Outcome.{Fails, Finds, FindsMore, before, put_before}
 pub use Rattle.wi_parser.specs.Inner.Parsed.{AreJudged, IsParsed, a_tree, as_judged, at_fault, no_tree, too_long}
 pub use Rattle.wi_parser.specs.Inner.PrintedParts.{pairs_text}
 pub use Rattle.wi_parser.specs.Inner.Reader.{Parse, ParseAll, Read, ReadAll, after_close, after_open, after_parameter, after_percent, after_separator, and_then_all, as_call, called, chain_step, first_parameter, if_last, inputs_at, one_or_two, operator_at, operator_within, parameter_at, percents, prefix_step, prefixed, put_first, read_then, reference_at, sign_at, sign_of, signed_read, then_close, unless_closed, whole}
-unfoldable pub use Rattle.wi_parser.specs.Inner.Reader.{atom, chain, expression, line, more_parameters, pair_at, parameters_at, what_if_at}
+unfoldable pub use Rattle.wi_parser.specs.Inner.Reader.{atom, chain, expression, level, more_parameters, pair_at, parameters_at, what_if_at}
 pub use Rattle.wi_parser.specs.Inner.Reading.{IsWithinLimits, ReadsAs, as_content, constant_read, is_too_long, judged, taken_as_text, unless_refused}
 unfoldable pub use Rattle.wi_parser.specs.Inner.Reading.{content_read, parsed}
 pub use Rattle.wi_parser.specs.Inner.Refusals.{is_out_of_sheet, is_refused, is_unfit, refusal_of}
@@ -108,13 +108,13 @@ pub use Rattle.wi_parser.specs.Inner.WhatIf.{pair_symbols, what_if_symbols}
 pub use Rattle.wi_parser.specs.Leaves.{Leaf, all_leaves, cell_leaf, leaves, rectangle_leaf, what_if_leaf}
 pub use Rattle.wi_parser.specs.Limits.{max_formula}
 pub use Rattle.wi_parser.specs.Nesting.{depth, greatest_depth, is_sign, is_too_deep, max_depth, opened}
-pub use Rattle.wi_parser.specs.Printing.{cell_named, operator_text, printed, symbol_text}
-pub use Rattle.wi_parser.specs.Reads.{area_of, cell_area, inputs_of, leaf_inputs, leaf_reads, leaf_rectangles, reads, rectangles_of}
+pub use Rattle.wi_parser.specs.Printing.{written_cell, operator_text, printed, symbol_text}
+pub use Rattle.wi_parser.specs.Reads.{cell_area, inputs_of, leaf_inputs, leaf_reads, leaf_rectangles, reads, rectangles_of}
 pub use Rattle.wi_parser.specs.Shift.{in_sheet, mapped_pairs, mapped_tree, mapped_trees, part, shifted, shifted_reference, within}
 pub use Rattle.wi_parser.specs.Spelling.{HasSpelling, IsSpelling, spelling, spelling_of_all, spelling_of_more}
 pub use Rattle.wi_parser.specs.Symbol.{Symbol, bad_token, close_parenthesis, corners, infix_mark, name, numeral, open_parenthesis, percent_mark, reference, separator, sign_mark, text_literal, what_if_name, written_as}
 pub use Rattle.wi_parser.specs.Symbols.{AreSymbols, Means, NoneLonger, a_token, at_the_end, no_token, reference_to, white_space}
-pub use Rattle.wi_parser.specs.Tree.{Tree, Trees, binary, call, cell, more_trees, no_trees, number, parenthesized, percent, rectangle, signed, text, trees_of, what_if}
+pub use Rattle.wi_parser.specs.Tree.{Tree, Trees, binary, call, cell, more_trees, no_trees, number, parenthesized, percent, rectangle, signed, text, trees_of, what_if, area_of}
 pub use Rattle.wi_parser.specs.View.{all_of, layer_tree, pair_of, tree_of}
 pub use Rattle.wi_parser.specs.Writable.{IsFormulaTree, IsFunctionName, IsWritable}
 pub use Rattle.wi_parser.specs.declared.content.Content.{Content}

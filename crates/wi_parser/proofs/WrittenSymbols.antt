@@ -1,5 +1,5 @@
 -- The text of a symbol is a token that means the symbol.
-use Rattle.wi_parser.proofs.Words.{◌≡◌, ◌≢◌, ℕ, zero, suc, ◌*◌, ◌/◌, ◌%◌, ◌^◌, ◌<◌, ◌≤◌, true, List, [], ◌++◌, length, Option, Some, None, unsigned_abs, if◌then◌else◌, refl, sym, ap, ap₂, ◌∙◌, subst, arith, decimal, Number as Numbers, max_size, padded, size_text, sign_text, places, decimal_text, IsUnsignedDecimal, plain, point, length-padded, digits_padded, all_none, div_small, decimal_few, decimals_read_back, Kind, Text, Rectangle, Mark, Name, OpenParenthesis, CloseParenthesis, Semicolon, Percent, one_cell, two_cells, of_content, IsToken, SomeDigits, digits_alone, reference_of_complete, rectangle_of_complete, text_reads_back, Corners, Symbol, numeral, text_literal, reference, corners, open_parenthesis, close_parenthesis, separator, infix_mark, percent_mark, what_if_name, name, bad_token, in_capitals, in_sheet, cell_named, symbol_text, number_symbol, cell_symbol, reference_symbol, corners_symbol, rectangle_symbol, symbol_of, IsFunctionName, IsWritable}
+use Rattle.wi_parser.proofs.Words.{◌≡◌, ◌≢◌, ℕ, zero, suc, ◌*◌, ◌/◌, ◌%◌, ◌^◌, ◌<◌, ◌≤◌, true, List, [], ◌++◌, length, Option, Some, None, unsigned_abs, if◌then◌else◌, refl, sym, ap, ap₂, ◌∙◌, subst, arith, decimal, Number as Numbers, max_size, padded, size_text, sign_text, places, decimal_text, IsUnsignedDecimal, plain, point, length-padded, digits_padded, all_none, div_small, decimal_few, decimals_read_back, Kind, Text, Rectangle, Mark, Name, OpenParenthesis, CloseParenthesis, Semicolon, Percent, one_cell, two_cells, of_content, IsToken, SomeDigits, digits_alone, reference_of_complete, rectangle_of_complete, text_reads_back, Corners, Symbol, numeral, text_literal, reference, corners, open_parenthesis, close_parenthesis, separator, infix_mark, percent_mark, what_if_name, name, bad_token, in_capitals, in_sheet, written_cell, symbol_text, number_symbol, cell_symbol, reference_symbol, corners_symbol, rectangle_symbol, symbol_of, IsFunctionName, IsWritable}
 use Rattle.wi_fraction.proofs.ReadsBack.{numeral as decimal_digits}
 use Rattle.wi_lexer.specs.declared.token.Kind.TheVariants.{Number, Reference}
 use Rattle.wi_parser.specs.declared.expr.Reference as references
@@ -56,8 +56,8 @@ reference_written : (r : references.Reference) → in_sheet r ≡ true → IsWri
 reference_written r e =
     let is = cell_is r e in
     record {
-      token = one_cell (cell_named r) is;
-      means = ap reference_symbol (reference_of_complete (cell_named r) is) ∙ ap cell_symbol (cell_means r e);
+      token = one_cell (written_cell r) is;
+      means = ap reference_symbol (reference_of_complete (written_cell r) is) ∙ ap cell_symbol (cell_means r e);
     }
 
 corners_written : (c : Corners) → in_sheet c.one ≡ true → in_sheet c.other ≡ true → IsWritten (corners c)
@@ -65,8 +65,8 @@ corners_written c e f =
     let one = cell_is c.one e in
     let other = cell_is c.other f in
     record {
-      token = two_cells (cell_named c.one) (cell_named c.other) one other;
-      means = ap rectangle_symbol (rectangle_of_complete (cell_named c.one) (cell_named c.other) one other) ∙ ap₂ corners_symbol (cell_means c.one e) (cell_means c.other f);
+      token = two_cells (written_cell c.one) (written_cell c.other) one other;
+      means = ap rectangle_symbol (rectangle_of_complete (written_cell c.one) (written_cell c.other) one other) ∙ ap₂ corners_symbol (cell_means c.one e) (cell_means c.other f);
     }
 
 name_written : (f : List ℕ) → IsFunctionName f → IsWritten (name f)

@@ -13,7 +13,7 @@ use Rattle.wi_parser.specs.Symbols.{AreSymbols}
 use Rattle.wi_parser.specs.Tree.{Tree}
 use Rattle.wi_fraction.specs.Text.{Bytes}
 
--- this follows the `=` of a formula
+-- what follows a formula's `=` or `of:=`
 pub data IsFormulaText : Bytes → Bytes → Type 0 where
   plain : (body : Bytes) → IsFormulaText (codes "=" ++ body) body
   prefixed : (body : Bytes) → IsFormulaText (codes "of:=" ++ body) body

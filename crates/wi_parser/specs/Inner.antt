@@ -4,7 +4,7 @@ pub mod Deepest
 pub mod Faults
 pub mod FormulaText
 pub mod Inside
-pub mod Lines
+pub mod Levels
 pub mod Moves
 pub mod Nests
 pub mod Outcome

@@ -16,8 +16,8 @@ use Rattle.wi_parser.specs.Symbol.{Symbol, numeral, text_literal, reference, cor
 use Rattle.wi_parser.specs.Spelling.{spelling}
 use Rattle.wi_fraction.specs.Text.{Bytes}
 
-abbrev pub cell_named : Reference → WrittenCell
-cell_named r = record {
+abbrev pub written_cell : Reference → WrittenCell
+written_cell r = record {
   column_is_absolute = r.column_is_absolute;
   letters = column_letters (column_of r.at);
   row_is_absolute = r.row_is_absolute;
@@ -42,8 +42,8 @@ operator_text GreaterOrEqual = codes ">="
 abbrev pub symbol_text : Symbol → Bytes
 symbol_text (numeral x) = decimal_text x
 symbol_text (text_literal s) = quoted s
-symbol_text (reference r) = reference_text (cell_named r)
-symbol_text (corners c) = rectangle_text (cell_named c.one) (cell_named c.other)
+symbol_text (reference r) = reference_text (written_cell r)
+symbol_text (corners c) = rectangle_text (written_cell c.one) (written_cell c.other)
 symbol_text open_parenthesis = codes "("
 symbol_text close_parenthesis = codes ")"
 symbol_text separator = codes ";"

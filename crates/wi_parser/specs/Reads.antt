@@ -2,14 +2,10 @@
 use Rattle.std.specs.Prelude.{◌==◌, ℕ, Bool, false, ◌||◌, List, [], ◌∷◌, map, Option, Some}
 use Rattle.std.specs.List.{list_any, flat_map}
 use Rattle.wi_values.specs.Address.{Area, rect_of, is_within}
-use Rattle.wi_parser.specs.declared.expr.Corners.{Corners}
-use Rattle.wi_parser.specs.Tree.{Tree}
+use Rattle.wi_parser.specs.Tree.{Tree, area_of}
 use Rattle.wi_parser.specs.Leaves.{Leaf, cell_leaf, rectangle_leaf, what_if_leaf, leaves}
 use Rattle.wi_parser.specs.declared.content.Content.{Content}
 use Rattle.wi_parser.specs.declared.content.Content.TheVariants.{Formula}
-
-abbrev pub area_of : Corners → Area
-area_of c = rect_of c.one.at c.other.at
 
 abbrev pub cell_area : ℕ → Area
 cell_area a = rect_of a a

@@ -4,7 +4,7 @@ use Rattle.std.specs.List.{flat_map}
 use Rattle.wi_parser.specs.Tree.{Tree, Trees, number, text, cell, rectangle, parenthesized, signed, percent, binary, what_if, call, no_trees, more_trees}
 use Rattle.wi_parser.specs.Symbol.{Symbol, numeral, text_literal, reference, corners, open_parenthesis, close_parenthesis, separator, infix_mark, sign_mark, percent_mark, what_if_name, name}
 use Rattle.wi_parser.specs.Grammar.{IsGrammatical}
-use Rattle.wi_parser.specs.Inner.Lines.{loosest, Spells}
+use Rattle.wi_parser.specs.Inner.Levels.{loosest, Spells}
 
 abbrev mutual
   pub spelling : Tree → List Symbol

@@ -1,6 +1,6 @@
 -- The symbols of a text: what its tokens mean, as facts about its bytes.
 use Rattle.std.specs.Prelude.{◌≡◌, ◌≢◌, ℕ, ◌≤◌, true, false, List, [], ◌∷◌, ◌++◌, length, ◌⊎◌, Some, None, codes, Option, option_map, map}
-use Rattle.wi_fraction.specs.Written.{Writes}
+use Rattle.wi_fraction.specs.Written.{WritesNumber}
 use Rattle.wi_lexer.specs.Cell.{WrittenCell, IsCell}
 use Rattle.wi_lexer.specs.Name.{IsName}
 use Rattle.wi_lexer.specs.Rectangle.{rectangle_text}
@@ -22,7 +22,7 @@ reference_to c =
 
 module _ (token : Bytes) where
   abbrev pub Means : Symbol → Type 0
-  Means (numeral x) = Writes token (Some x)
+  Means (numeral x) = WritesNumber token (Some x)
   Means (reference r) = (c : WrittenCell) × IsCell c × (token ≡ reference_text c) × (reference_to c ≡ Some r)
   Means (corners p) =
       (c : WrittenCell) × (d : WrittenCell) × IsCell c × IsCell d × (token ≡ rectangle_text c d)
@@ -30,7 +30,7 @@ module _ (token : Bytes) where
   Means what_if_name = IsName token × (str_eq_ignore_ascii_case token (codes "MULTIPLE.OPERATIONS") ≡ true)
   Means (name f) =
       IsName token × (str_eq_ignore_ascii_case token (codes "MULTIPLE.OPERATIONS") ≡ false) × (map to_ascii_uppercase token ≡ f)
-  Means (bad_token NumberRange) = Writes token None
+  Means (bad_token NumberRange) = WritesNumber token None
   Means (bad_token OutOfSheet) =
       ((c : WrittenCell) × IsCell c × (token ≡ reference_text c) × (reference_to c ≡ None))
       ⊎ ((c : WrittenCell) × (d : WrittenCell) × IsCell c × IsCell d × (token ≡ rectangle_text c d)

@@ -1,11 +1,15 @@
 -- A formula's tree, as definitions see it.
 use Rattle.std.specs.Prelude.{List, [], ◌∷◌}
 use Rattle.wi_fraction.specs.Number.{Number}
+use Rattle.wi_values.specs.Address.{Area, rect_of}
 use Rattle.wi_parser.specs.declared.expr.Corners.{Corners}
 use Rattle.wi_parser.specs.declared.expr.Operator.{Operator}
 use Rattle.wi_parser.specs.declared.expr.Reference.{Reference}
 use Rattle.wi_parser.specs.declared.expr.Sign.{Sign}
 use Rattle.wi_fraction.specs.Text.{Bytes}
+
+abbrev pub area_of : Corners → Area
+area_of c = rect_of c.one.at c.other.at
 
 mutual
   -- Each input has its replacement cell beside it. A call's name is in capitals.

@@ -2,7 +2,7 @@
 
 ghost use Rattle.std.specs.Prelude.{◌≡◌, map, IfOk};
 ghost use Rattle.wi_parser.specs.View.{tree_of, all_of, pair_of};
-ghost use Rattle.wi_parser.specs.Reads.{area_of};
+ghost use Rattle.wi_parser.specs.Tree.{area_of};
 ghost use Rattle.wi_parser.specs.Tree as tree;
 
 use std::alloc::{AllocError, Global};

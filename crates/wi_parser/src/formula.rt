@@ -8,7 +8,7 @@ ghost use Rattle.wi_parser.specs.Reads.{cell_area, leaf_inputs, inputs_of, leaf_
 ghost use Rattle.wi_parser.specs.Writable.{IsFormulaTree};
 ghost use Rattle.wi_parser.specs.Shift.{shifted, ShiftsTo};
 ghost use Rattle.wi_parser.specs.Printing.{printed};
-ghost use Rattle.wi_parser.specs.Inner.Lines.{Spells, loosest};
+ghost use Rattle.wi_parser.specs.Inner.Levels.{Spells, loosest};
 ghost use Rattle.wi_parser.specs.Inner.FormulaText.{formula_symbols};
 ghost use Rattle.wi_parser.specs.Limits.{max_formula};
 ghost use Rattle.wi_parser.specs.Inner.Reading.{parsed};

@@ -1,4 +1,4 @@
-//! The lines of the grammar, each over the function that reads what stands in parentheses.
+//! The levels of the grammar, each over the function that reads what stands in parentheses.
 
 ghost use Rattle.std.specs.Prelude.{◌≡◌, ◌<◌, ◌≤◌, length, None, OnOk, IfOk};
 ghost use Rattle.wi_parser.specs.Inner.Reader as reader;
@@ -10,7 +10,7 @@ ghost use Rattle.wi_parser.specs.Tree as tree;
 use crate::expr::{Corners, Expr, Reference, Sign, binary, call, text};
 use crate::fault::ParseFault;
 use crate::symbol::Symbol;
-use crate::symbols::{Symbols, line_of};
+use crate::symbols::{Symbols, level_of};
 use crate::what_if::what_if;
 use std::alloc::{AllocError, Global};
 use wi_fraction::Fraction;
@@ -128,7 +128,7 @@ impl<F: Fn(Global, &mut Symbols<'_>, usize) -> Result<Expr, ParseFault>> Grammar
     /// Any number of signs, and an atom.
     fn prefixed(&self, symbols: &mut Symbols<'_>) -> Result<Expr, ParseFault>
         requires { Nests self.now.depth (F.pre self.now.expression) (F.post self.now.expression) }
-        ensures finds { Finds (reader.line (reader.expression self.now.depth) 1 symbols.old)
+        ensures finds { Finds (reader.level (reader.expression self.now.depth) 1 symbols.old)
             result symbols.new }
         ensures shorter { OnOk result (length symbols.new < length symbols.old) }
     {
@@ -142,7 +142,7 @@ impl<F: Fn(Global, &mut Symbols<'_>, usize) -> Result<Expr, ParseFault>> Grammar
     /// An operand with its signs, and any number of percent marks.
     fn percents(&self, symbols: &mut Symbols<'_>) -> Result<Expr, ParseFault>
         requires { Nests self.now.depth (F.pre self.now.expression) (F.post self.now.expression) }
-        ensures finds { Finds (reader.line (reader.expression self.now.depth) 2 symbols.old)
+        ensures finds { Finds (reader.level (reader.expression self.now.depth) 2 symbols.old)
             result symbols.new }
         ensures shorter { OnOk result (length symbols.new < length symbols.old) }
     {
@@ -153,20 +153,20 @@ impl<F: Fn(Global, &mut Symbols<'_>, usize) -> Result<Expr, ParseFault>> Grammar
         Ok(operand)
     }
 
-    /// A line of the grammar from percents, which are line 2, to comparisons: an operand, and each operator of the line
-    /// or a tighter one, with a right operand of the line below the operator's.
-    fn line(&self, symbols: &mut Symbols<'_>, line: u8) -> Result<Expr, ParseFault>
+    /// A level of the grammar from percents, which are level 2, to comparisons: an operand, and each operator of the level
+    /// or a tighter one, with a right operand of the level below the operator's.
+    fn level(&self, symbols: &mut Symbols<'_>, level: u8) -> Result<Expr, ParseFault>
         requires nests { Nests self.now.depth (F.pre self.now.expression)
             (F.post self.now.expression) }
-        requires from_percents { 2 ≤ line }
-        ensures finds { Finds (reader.line (reader.expression self.now.depth) line symbols.old)
+        requires from_percents { 2 ≤ level }
+        ensures finds { Finds (reader.level (reader.expression self.now.depth) level symbols.old)
             result symbols.new }
         ensures shorter { OnOk result (length symbols.new < length symbols.old) }
-        ensures ended { OnOk result (reader.operator_within line symbols.new ≡ None) }
+        ensures ended { OnOk result (reader.operator_within level symbols.new ≡ None) }
     {
         let mut left = self.percents(symbols)?;
-        while let Some(op) = symbols.take_operator(line) {
-            let right = self.line(symbols, line_of(op) - 1)?;
+        while let Some(op) = symbols.take_operator(level) {
+            let right = self.level(symbols, level_of(op) - 1)?;
             left = binary(self.alloc, op, left, right)?;
         }
         Ok(left)
@@ -192,7 +192,7 @@ pub(crate) fn expression(
         depth: depth - 1,
         expression,
     }
-    .line(symbols, LOOSEST)
+    .level(symbols, LOOSEST)
 }
 
 fn number(x: Fraction) -> Expr

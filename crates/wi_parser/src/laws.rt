@@ -9,7 +9,7 @@ ghost use Rattle.wi_parser.specs.declared.content.Content.{Content};
 ghost use Rattle.wi_parser.specs.declared.fault.ParseFault.{ParseFault};
 ghost use Rattle.wi_parser.specs.Tree.{Tree};
 ghost use Rattle.wi_parser.specs.Symbol.{Symbol};
-ghost use Rattle.wi_parser.specs.Inner.Lines.{Spells, loosest};
+ghost use Rattle.wi_parser.specs.Inner.Levels.{Spells, loosest};
 ghost use Rattle.wi_parser.specs.Nesting.{depth};
 ghost use Rattle.wi_parser.specs.Inner.Deepest.{deepest};
 ghost use Rattle.wi_parser.specs.Spelling.{spelling, IsSpelling};
@@ -93,8 +93,8 @@ pub fn one_spelling()
     ensures { (k : ℕ) (t : Tree) (ts : List Symbol) → Spells k t ts → ts ≡ spelling t }
 {}
 
-/// The lines of the grammar spell the grammatical trees, each by its spelling.
-pub fn what_the_lines_spell()
+/// The levels of the grammar spell the grammatical trees, each by its spelling.
+pub fn what_the_levels_spell()
     ensures { (t : Tree) (ts : List Symbol) → IsSpelling t ts ↔ Spells loosest t ts }
 {}
 

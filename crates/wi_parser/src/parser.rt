@@ -3,7 +3,7 @@
 ghost use Rattle.std.specs.Prelude.{◌+◌, Ok, IfOk};
 ghost use Rattle.wi_parser.specs.Inner.SymbolCode.{all_meant};
 ghost use Rattle.wi_parser.specs.Nesting.{max_depth};
-ghost use Rattle.wi_parser.specs.Inner.Lines.{Spells, loosest};
+ghost use Rattle.wi_parser.specs.Inner.Levels.{Spells, loosest};
 ghost use Rattle.wi_parser.specs.Inner.Reader as reader;
 ghost use Rattle.wi_parser.specs.Inner.Outcome.{FindsWhole};
 ghost use Rattle.wi_parser.specs.Inner.FormulaText.{IsFrontOf, formula_symbols};

@@ -9,7 +9,7 @@ ghost use Rattle.wi_lexer.specs.Reference.{reference_text};
 ghost use Rattle.wi_lexer.specs.Rectangle.{rectangle_text};
 ghost use Rattle.wi_parser.specs.Inner.WhatIf.{pair_symbols};
 ghost use Rattle.wi_parser.specs.Printing as spec;
-ghost use Rattle.wi_parser.specs.Printing.{cell_named, printed};
+ghost use Rattle.wi_parser.specs.Printing.{written_cell, printed};
 ghost use Rattle.wi_parser.specs.Inner.SymbolLists.{symbols_text, tree_text};
 ghost use Rattle.wi_parser.specs.Symbol.{written_as};
 ghost use Rattle.wi_parser.specs.Tree as tree;
@@ -155,7 +155,7 @@ fn dollar(is_absolute: bool) -> &'static str
 /// Appends a reference. On an error a part of it may be there.
 fn push_reference(at: Reference, out: &mut String) -> Result<(), AllocError>
     ensures ok { OnOk result
-        (string_bytes out.new ≡ string_bytes out.old ++ reference_text (cell_named at)) }
+        (string_bytes out.new ≡ string_bytes out.old ++ reference_text (written_cell at)) }
     ensures kept { StartsWith (string_bytes out.new) (string_bytes out.old) }
 {
     out.push_str("[.")?;
@@ -166,7 +166,7 @@ fn push_reference(at: Reference, out: &mut String) -> Result<(), AllocError>
 /// Appends a reference to a rectangle. On an error a part of it may be there.
 fn push_rectangle(corners: Corners, out: &mut String) -> Result<(), AllocError>
     ensures ok { OnOk result (string_bytes out.new ≡ string_bytes out.old
-        ++ rectangle_text (cell_named corners.one) (cell_named corners.other)) }
+        ++ rectangle_text (written_cell corners.one) (written_cell corners.other)) }
     ensures kept { StartsWith (string_bytes out.new) (string_bytes out.old) }
 {
     out.push_str("[.")?;
@@ -179,7 +179,7 @@ fn push_rectangle(corners: Corners, out: &mut String) -> Result<(), AllocError>
 /// Appends the cell of a reference. On an error a part of it may be there.
 fn push_cell(at: Reference, out: &mut String) -> Result<(), AllocError>
     ensures ok { OnOk result
-        (string_bytes out.new ≡ string_bytes out.old ++ cell_text (cell_named at)) }
+        (string_bytes out.new ≡ string_bytes out.old ++ cell_text (written_cell at)) }
     ensures kept { StartsWith (string_bytes out.new) (string_bytes out.old) }
 {
     out.push_str(dollar(at.column_is_absolute))?;

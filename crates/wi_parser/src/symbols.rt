@@ -141,14 +141,14 @@ impl<'a> Symbols<'a> {
         }
     }
 
-    /// Takes the next symbol, if it is an operator of this line of the grammar or a tighter one.
-    pub(crate) fn take_operator(&mut self, line: u8) -> Option<Operator>
+    /// Takes the next symbol, if it is an operator of this level of the grammar or a tighter one.
+    pub(crate) fn take_operator(&mut self, level: u8) -> Option<Operator>
         ensures { MatchOption result
-            ((operator_within line self.old ≡ None) × (self.new ≡ self.old))
-            (λ op. operator_within line self.old ≡ Some (op, self.new)) }
+            ((operator_within level self.old ≡ None) × (self.new ≡ self.old))
+            (λ op. operator_within level self.old ≡ Some (op, self.new)) }
     {
         match self.rest {
-            [Symbol::Infix(op), rest @ ..] if line_of(*op) <= line => {
+            [Symbol::Infix(op), rest @ ..] if level_of(*op) <= level => {
                 self.rest = rest;
                 Some(*op)
             }
@@ -157,9 +157,9 @@ impl<'a> Symbols<'a> {
     }
 }
 
-/// The line of the grammar that has the operator.
-pub(crate) fn line_of(op: Operator) -> u8
-    ensures { result ≡ grammar.line_of op }
+/// The level of the grammar that has the operator.
+pub(crate) fn level_of(op: Operator) -> u8
+    ensures { result ≡ grammar.level_of op }
 {
     match op {
         Operator::Power => 3,

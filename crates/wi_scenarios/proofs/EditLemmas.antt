@@ -52,7 +52,7 @@ edit_lacks r s force e k =
     (record { answer = edit_answer s force e; is_answer = refl; grows = edit_grows s force e }, refl, refl)
 
 made : (s : State) (stored : Stored) (named : List Area) (scenarios : List Scenario) (sessions : List Session) (current : ℕ) (log : List Entry) →
-    scenarios ≡ s.scenarios → sessions ≡ s.sessions → current ≡ s.current → log ≡ s.log ++ record { session = s.current; cells = named } ∷ [] →
+    scenarios ≡ s.scenarios → sessions ≡ s.sessions → current ≡ s.current → log ≡ s.log ++ record { session = s.current; areas = named } ∷ [] →
     with_stored s named stored ≡ record { stored = stored; scenarios = scenarios; sessions = sessions; current = current; log = log }
 made s stored named scenarios sessions current log a b c d = cc
 
@@ -65,7 +65,7 @@ kept s stored scenarios sessions current log a b c d e = cc
 -- an edit that was made, or that left sheet and log as they were
 pub edit_served : (r : Result (Unit {0}) Refusal) (s t : State) (force : Bool) (e : Edit) → stale_in s force e.named ≡ None →
     t.scenarios ≡ s.scenarios → t.sessions ≡ s.sessions → t.current ≡ s.current →
-    Commits (applied s.stored e.contents) (record { session = s.current; cells = e.named }) r s.stored t.stored s.log t.log →
+    Commits (applied s.stored e.contents) (record { session = s.current; areas = e.named }) r s.stored t.stored s.log t.log →
     Serves (λ a. edit_answer s force e ≡ a) r s t []
 edit_served (Ok u) s t force e fresh a b c h =
     edit_fresh s force e fresh ∙ ap (answer_by s None e.named) h.0

@@ -50,7 +50,7 @@ is_below (r ∷ rs) a h = elim (or_cases (is_within r a) (is_within_one rs a) h)
 
 -- an edit that is kept as the entry
 kept : Entry → Edit
-kept e = record { named = e.cells; session = e.session; run = 0 }
+kept e = record { named = e.areas; session = e.session; run = 0 }
 
 kept_entries : (log : List Entry) → entries_in (map kept log) ≡ log
 unfolding kept

@@ -111,7 +111,7 @@ module _ {C : Type 0} (IsStep : State → C → Answer → Type 0) (changes : C)
 abbrev pub logged : ℕ → Answer → Option (List Area) → List Entry
 logged session (Err e) named = []
 logged session (Ok done) None = []
-logged session (Ok done) (Some named) = record { session = session; cells = named } ∷ []
+logged session (Ok done) (Some named) = record { session = session; areas = named } ∷ []
 
 -- the edits that the i-th session hasn't seen: those behind its place in the log; one that isn't made yet has seen none
 abbrev pub unseen : State → ℕ → List Entry
@@ -143,7 +143,7 @@ module _ {C : Type 0} (is_changes : C → Bool) (named_by : C → Option (List A
 
 -- an edit of another session than the i-th names the cell
 abbrev pub is_newer : List Entry → ℕ → ℕ → Bool
-is_newer edits i a = list_any (λ e. not (e.session == i) && is_within_one e.cells a) edits
+is_newer edits i a = list_any (λ e. not (e.session == i) && is_within_one e.areas a) edits
 
 -- Of the cells in the rectangles, this is the first in row-major order that an edit of another session names.
 pub record IsFirstNewer (edits : List Entry) (i : ℕ) (named : List Area) (a : ℕ) : Type 0 where

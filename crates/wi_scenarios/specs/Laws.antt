@@ -20,7 +20,7 @@ pub record IsEdited (named : List Area) (old new : State) : Type 0 where
   pub scenarios : new.scenarios ≡ old.scenarios
   pub sessions : new.sessions ≡ old.sessions
   pub current : new.current ≡ old.current
-  pub log : new.log ≡ old.log ++ record { session = old.current; cells = named } ∷ []
+  pub log : new.log ≡ old.log ++ record { session = old.current; areas = named } ∷ []
 
 -- The scenario of this name may be made, changed or removed. All else is as it was.
 pub record HasScenarioChanged (name : List ℕ) (old new : State) : Type 0 where

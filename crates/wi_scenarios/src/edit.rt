@@ -182,7 +182,7 @@ fn edit_with_rooms<C: Calculator>(
     ensures beside { SameBeside desk.old desk.new }
     ensures rooms { OnOk result (HasRooms marked.now desk.new.sessions) }
     ensures edit { Commits (applied (C.stored calculator.old) contents.old)
-        (record { session = desk.old.current; cells = named })
+        (record { session = desk.old.current; areas = named })
         result (C.stored calculator.old) (C.stored calculator.new) desk.old.log desk.new.log }
     ensures counts { (C.evaluated calculator.new ≡ C.evaluated calculator.old)
         × (C.restarted calculator.new ≡ C.restarted calculator.old) }
@@ -212,7 +212,7 @@ fn commit<C: Calculator>(
     contents: &mut [NewContent],
 ) -> Result<(), Refusal>
     ensures edit { Commits (applied (C.stored calculator.old) contents.old)
-        (record { session = session; cells = named })
+        (record { session = session; areas = named })
         result (C.stored calculator.old) (C.stored calculator.new) log.old log.new }
     ensures counts { (C.evaluated calculator.new ≡ C.evaluated calculator.old)
         × (C.restarted calculator.new ≡ C.restarted calculator.old) }

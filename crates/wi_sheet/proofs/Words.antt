@@ -45,10 +45,10 @@ pub use Rattle.wi_graph.specs.Reach.{AgreeFrom, IsInCone, Reaches, SameOff, Walk
 unfoldable pub use Rattle.wi_graph.specs.Reach.{reaches}
 pub use Rattle.wi_parser.proofs.Rectangles.{one_cell, reads_within}
 pub use Rattle.wi_parser.specs.Leaves.{Leaf, all_leaves, cell_leaf, leaves, rectangle_leaf, what_if_leaf}
-pub use Rattle.wi_parser.specs.Reads.{area_of, cell_area, content_reads, leaf_reads, leaf_rectangles, reads, rectangles_of}
+pub use Rattle.wi_parser.specs.Reads.{cell_area, content_reads, leaf_reads, leaf_rectangles, reads, rectangles_of}
 pub use Rattle.wi_parser.specs.Sheet.{Sheet, cells_with_formula, constant, content_of, has_formula, put_all, with_content}
 pub use Rattle.wi_parser.specs.Inner.Puts.{put, without}
-pub use Rattle.wi_parser.specs.Tree.{Tree, Trees, binary, call, cell, more_trees, no_trees, number, parenthesized, percent, rectangle, signed, text, what_if}
+pub use Rattle.wi_parser.specs.Tree.{Tree, Trees, binary, call, cell, more_trees, no_trees, number, parenthesized, percent, rectangle, signed, text, what_if, area_of}
 pub use Rattle.wi_parser.specs.View.{pair_of}
 pub use Rattle.wi_parser.specs.declared.content.Content.{Content}
 pub use Rattle.wi_parser.specs.declared.content.Content.TheVariants.{Constant, Formula}

@@ -68,11 +68,11 @@ match_value args = do
 
 -- the k-th cell of the line whose first cell is found; the lines are rows, or columns
 abbrev pub look_up_value : (Region → ℕ) → (Region → ℕ) → (Region → ℕ → ℕ → Value) → List Argument → Value
-look_up_value lines width cell args = do
+look_up_value lines places cell args = do
   v ← no_error (value_at args 0)
   r ← region_at args 1
   k ← to_whole (value_at args 2)
   in_order ← to_logical (value_or (Logical true) args 3)
-  i ← position_among (width r) k
+  i ← position_among (places r) k
   line ← position_of (if in_order then one_number else zero_number) v (map (λ l. cell r l 0) (range_with_len 0 (lines r)))
   cell r line i

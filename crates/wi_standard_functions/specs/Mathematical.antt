@@ -66,6 +66,7 @@ sum_if_value args = do
   x ← number_fold addition zero_number (map (λ p. from_cell p.1) (filter (λ p. meets_criterion criterion p.0) (zip r.values s.values)))
   Number x
 
+-- in SUMPRODUCT any other counts as 0
 abbrev pub factor : Value → Item
 factor (Number x) = from_cell (Number x)
 factor (Fault e) = from_cell (Fault e)

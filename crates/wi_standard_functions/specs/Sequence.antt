@@ -11,12 +11,12 @@ use Rattle.wi_standard_functions.specs.Arithmetic.{Operation}
 use Rattle.wi_standard_functions.specs.Convert.{to_number, to_logical}
 use Rattle.wi_standard_functions.specs.Steps.{and_then, map_until_error}
 
--- the value of a cell of a reference, or another
+-- the value of a reference's cell, or another
 pub data Item : Type 0 where
   from_cell : Value → Item
   scalar : Value → Item
 
--- the cells of a reference, also of one cell, in row-major order
+-- a reference gives its cells row by row, even one
 abbrev pub sequence_of : List Argument → List Item
 sequence_of args = flat_map (λ (a : Argument). option_map_or (λ (r : Region). map from_cell r.values) a.region (scalar a.value ∷ [])) args
 

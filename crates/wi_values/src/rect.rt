@@ -1,10 +1,11 @@
 //! A rectangle of cells.
 
-ghost use Rattle.std.specs.Prelude.{◌≡◌, ◌==◌, ◌<◌, ℕ, true, length, IfSome};
+ghost use Rattle.std.specs.Prelude.{◌≡◌, ◌==◌, ◌<◌, ◌≤◌, ℕ, true, length, IfSome};
 ghost use Rattle.std.specs.List.{position};
 ghost use Rattle.std.specs.Str.{byte};
 ghost use Rattle.wi_values.specs.Address.{rect_of, is_within, height, width, size_of, is_column, is_row};
 ghost use Rattle.wi_values.specs.AddressReading.{corners, read_rect};
+ghost use Rattle.wi_values.specs.Inner.Cells.{IsAtOrBefore};
 
 use crate::address::{Address, AddressFault};
 use std::marker::Model;
@@ -86,6 +87,27 @@ impl Rect {
     {
         (self.first.row() <= at.row() && at.row() <= self.last.row())
             && (self.first.column() <= at.column() && at.column() <= self.last.column())
+    }
+
+    /// The first of its cells after a cell, in row-major order, if one comes after it.
+    pub fn cell_after(self, at: Address) -> Option<Address>
+        requires { at ≤ self.last }
+        ensures after { IfSome result (λ a. (at < a) × (a ≤ self.last)) }
+        ensures within { IfSome result (λ a. is_within self a ≡ true) }
+        ensures first { (a : ℕ) → is_within self a ≡ true → at < a → IsAtOrBefore result a }
+    {
+        let left = self.first.column();
+        if at < self.first {
+            Some(self.first)
+        } else if at.column() < left {
+            Some(Address::at(at.row(), left))
+        } else if at.column() < self.last.column() {
+            Some(Address::at(at.row(), at.column() + 1))
+        } else if at.row() < self.last.row() {
+            Some(Address::at(at.row() + 1, left))
+        } else {
+            None
+        }
     }
 
     /// The least rectangle that has each cell of both.

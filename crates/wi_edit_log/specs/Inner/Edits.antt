@@ -8,14 +8,14 @@ use Rattle.wi_edit_log.specs.declared.edit.Edit.{Edit}
 
 -- the entry that is kept so
 abbrev pub entry_in : Edit → Entry
-entry_in e = record { session = e.session; cells = e.named }
+entry_in e = record { session = e.session; areas = e.named }
 
 abbrev pub entries_in : List Edit → List Entry
 entries_in es = map entry_in es
 
 -- an edit of another session names the cell a
 abbrev pub is_named_by_others : List Edit → ℕ → ℕ → Bool
-is_named_by_others es session a = list_any (λ e. not (e.session == session) && is_within_one e.cells a) (entries_in es)
+is_named_by_others es session a = list_any (λ e. not (e.session == session) && is_within_one e.areas a) (entries_in es)
 
 -- and the cell a is one of the wanted
 abbrev pub is_wanted_of_others : List Edit → ℕ → List Area → ℕ → Bool

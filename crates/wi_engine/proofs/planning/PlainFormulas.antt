@@ -3,7 +3,8 @@ use Rattle.wi_engine.proofs.Words.{◌≡◌, ◌==◌, ◌||◌, ◌<◌, ℕ, 
 use Rattle.std.specs.List.{flat_map}
 use Rattle.std.proofs.lemmas.List.Folds.{list_any_at}
 use Rattle.wi_parser.specs.Leaves.{Leaf, cell_leaf, rectangle_leaf, what_if_leaf, leaves}
-use Rattle.wi_parser.specs.Reads.{leaf_reads, area_of}
+use Rattle.wi_parser.specs.Reads.{leaf_reads}
+use Rattle.wi_parser.specs.Tree.{area_of}
 use Rattle.wi_sheet.specs.Demand.{leaf_what_ifs, leaf_reads_here}
 use Rattle.wi_engine.specs.Inner.Plans.{RestsOnSettled, is_unsettled, is_what_if}
 

@@ -4,7 +4,7 @@ use Rattle.std.specs.Char.{is_ascii_digit}
 use Rattle.std.specs.Str.{byte, all_ascii_digits}
 use Rattle.std.specs.Str.Parse.{digits_value, without_leading_plus}
 use Rattle.std.specs.List.{prefix_len}
-use Rattle.wi_fraction.specs.Number.{Number, number_of, signed, max_size}
+use Rattle.wi_fraction.specs.Number.{Number, number_of, with_minus, max_size}
 
 -- one digit or more, and nothing else
 abbrev pub is_numeral : List ℕ → Bool
@@ -12,11 +12,11 @@ is_numeral bs = nat_lt 0 (length bs) && all_ascii_digits bs
 
 -- the decimal with those digits before and after the point, of which there may be none after it
 abbrev pub decimal_value : Bool → List ℕ → List ℕ → Option Number
-decimal_value s whole parts = number_of (signed s (digits_value 10 (whole ++ parts))) (10 ^ length parts)
+decimal_value s whole parts = number_of (with_minus s (digits_value 10 (whole ++ parts))) (10 ^ length parts)
 
 -- n/d with that sign, where d is not zero and neither is too large
 abbrev pub read_quotient : Bool → ℕ → ℕ → Option Number
-read_quotient s n d = if nat_lt 0 d && nat_le n max_size && nat_le d max_size then number_of (signed s n) d else None
+read_quotient s n d = if nat_lt 0 d && nat_le n max_size && nat_le d max_size then number_of (with_minus s n) d else None
 
 -- what the digits and the rest of the text read as
 unfoldable pub read_after : Bool → List ℕ → List ℕ → Option Number

@@ -1,5 +1,5 @@
 -- The cells of a set that lie ahead.
-use Rattle.std.specs.Prelude.{◌≡◌, ◌≤◌, ℕ, true, Option, Some, None}
+use Rattle.std.specs.Prelude.{◌≡◌, ◌≤◌, ℕ, true}
 use Rattle.std.specs.Ordering.{nat_cmp}
 use Rattle.std.specs.BTreeSet.{BTreeSet, contains}
 use Rattle.wi_values.specs.Address.{Area, is_within}
@@ -11,8 +11,3 @@ IsAhead cells r from c = (from ≤ c) × (is_within r c ≡ true) × (contains n
 -- c is one of the set, from one cell to another
 abbrev pub IsBetween : BTreeSet ℕ → ℕ → ℕ → ℕ → Type 0
 IsBetween cells from to c = (from ≤ c) × (c ≤ to) × (contains nat_cmp cells c ≡ true)
-
--- one was found, at c or before it
-abbrev pub IsFoundBy : Option ℕ → ℕ → Type 0
-IsFoundBy None c = ⊥
-IsFoundBy (Some d) c = d ≤ c

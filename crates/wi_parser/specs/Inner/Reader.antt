@@ -7,8 +7,8 @@ use Rattle.wi_parser.specs.declared.expr.Sign.{Sign}
 use Rattle.wi_parser.specs.declared.expr.Sign.TheVariants.{Plus, Minus}
 use Rattle.wi_parser.specs.Tree.{Tree, number, cell, rectangle, parenthesized, signed, percent, binary, what_if, Trees, text, call, no_trees, more_trees}
 use Rattle.wi_parser.specs.Symbol.{Symbol, numeral, reference, corners, open_parenthesis, close_parenthesis, separator, infix_mark, percent_mark, what_if_name, text_literal, name}
-use Rattle.wi_parser.specs.Grammar.{line_of}
-use Rattle.wi_parser.specs.Inner.Lines.{loosest}
+use Rattle.wi_parser.specs.Grammar.{level_of}
+use Rattle.wi_parser.specs.Inner.Levels.{loosest}
 
 -- a tree found, and what follows it
 abbrev pub Read : Type 0
@@ -54,14 +54,14 @@ abbrev pub sign_at : List Symbol → Option (Sign × List Symbol)
 sign_at [] = None
 sign_at (x ∷ ts) = option_map (λ s. (s, ts)) (sign_of x)
 
--- the operator of this line that stands first, and what follows it
+-- the operator of this level that stands first, and what follows it
 abbrev pub operator_at : ℕ → List Symbol → Option (Operator × List Symbol)
-operator_at k (infix_mark op ∷ ts) = cond (line_of op == k) (Some (op, ts)) None
+operator_at k (infix_mark op ∷ ts) = cond (level_of op == k) (Some (op, ts)) None
 operator_at k ts = None
 
--- the operator of this line or a tighter one that stands first, and what follows it
+-- the operator of this level or a tighter one that stands first, and what follows it
 abbrev pub operator_within : ℕ → List Symbol → Option (Operator × List Symbol)
-operator_within k (infix_mark op ∷ ts) = cond (nat_le (line_of op) k) (Some (op, ts)) None
+operator_within k (infix_mark op ∷ ts) = cond (nat_le (level_of op) k) (Some (op, ts)) None
 operator_within k ts = None
 
 -- the tree, where the mark that closes stands next
@@ -138,7 +138,7 @@ abbrev pub called : Parse → List ℕ → Option (List Symbol) → Read
 called inner f None = None
 called inner f (Some us) = as_call f (parameters_at inner us)
 
--- ---- lines
+-- ---- levels
 
 -- a number, a text, a cell, a rectangle, what stands in parentheses, which `inner` reads, a what-if, or a call
 unfoldable pub atom : Parse → Parse
@@ -176,25 +176,25 @@ abbrev pub chain_step : Parse → (Tree → Parse) → Tree → List Symbol → 
 chain_step next again left ts None = Some (left, ts)
 chain_step next again left ts (Some p) = read_then (λ r rest. again (binary p.0 left r) rest) (next p.1)
 
--- Operators of line k after what was read, grouped to the left. The number n bounds the turns.
+-- Operators of level k after what was read, grouped to the left. The number n bounds the turns.
 unfoldable pub chain : Parse → ℕ → ℕ → Tree → Parse
 chain next k zero left ts = Some (left, ts)
 chain next k (suc n) left ts = chain_step next (chain next k n) left ts (operator_at k ts)
 
--- one line of the grammar, by its number
-unfoldable pub line : Parse → ℕ → Parse
+-- one level of the grammar, by its number
+unfoldable pub level : Parse → ℕ → Parse
 unfolding atom chain
-line inner zero ts = atom inner ts
-line inner (suc zero) ts = prefixed (atom inner) ts
-line inner (suc (suc zero)) ts = read_then percents (prefixed (atom inner) ts)
-line inner (suc (suc (suc k))) ts =
-    read_then (λ t rest. chain (line inner (suc (suc k))) (suc (suc (suc k))) (length rest) t rest) (line inner (suc (suc k)) ts)
+level inner zero ts = atom inner ts
+level inner (suc zero) ts = prefixed (atom inner) ts
+level inner (suc (suc zero)) ts = read_then percents (prefixed (atom inner) ts)
+level inner (suc (suc (suc k))) ts =
+    read_then (λ t rest. chain (level inner (suc (suc k))) (suc (suc (suc k))) (length rest) t rest) (level inner (suc (suc k)) ts)
 
 -- an expression in which fewer parenthesized trees than the number stand one inside another
 unfoldable pub expression : ℕ → Parse
-unfolding line
+unfolding level
 expression zero ts = None
-expression (suc d) ts = line (expression d) loosest ts
+expression (suc d) ts = level (expression d) loosest ts
 
 abbrev pub if_last : Tree → List Symbol → Option Tree
 if_last t [] = Some t

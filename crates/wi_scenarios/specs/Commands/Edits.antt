@@ -62,5 +62,5 @@ module _ (s : State) where
   abbrev pub after_edit : Command → List Put → State
   after_edit c puts = record s {
     stored = record { sheet = sheet_with puts; edits = s.stored.edits + 1; limits = s.stored.limits };
-    log = s.log ++ record { session = s.current; cells = named c } ∷ [];
+    log = s.log ++ record { session = s.current; areas = named c } ∷ [];
   }

@@ -27,7 +27,7 @@ stale_in s force named = if force then None else first_stale s.log s.current (cu
 
 -- the state after an edit, which enters the log
 abbrev pub with_stored : State → List Area → Stored → State
-with_stored s named stored = record s { stored = stored; log = s.log ++ record { session = s.current; cells = named } ∷ [] }
+with_stored s named stored = record s { stored = stored; log = s.log ++ record { session = s.current; areas = named } ∷ [] }
 
 -- a stale cell counts before the sheet's limits
 abbrev pub answer_by : State → Option ℕ → List Area → Result Stored StoreFault → Answer

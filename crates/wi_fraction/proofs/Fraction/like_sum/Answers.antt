@@ -1,5 +1,5 @@
 use Rattle.wi_fraction.proofs.Vocabulary.{rules, ◌∙◌, sym, FitsSigned, w128, to_z-of_z}
-use Rattle.wi_fraction.proofs.Steps.{like_sum_some, like_sum_none, signed-abs}
+use Rattle.wi_fraction.proofs.Steps.{like_sum_some, like_sum_none, with_minus-abs}
 use Rattle.wi_fraction.proofs.Fraction.like_sum.Goals as goal
 
 pub returns-in_err-total : goal.returns-in_err-total
@@ -17,4 +17,4 @@ returns c =
     rw (← c.parts-a.ensures, ← c.parts.ensures)
     (like_sum_some _ _ c.in_ok-total.total _ (rw (← c.parts-a.ensures, ← c.parts.ensures) at c.requires)
     (simp to_z-of_z at c.in_ok-total.ensures)
-    (c.reduced.ensures ∙ rw c.unsigned_abs.ensures.value (simp (to_z-of_z, signed-abs))))
+    (c.reduced.ensures ∙ rw c.unsigned_abs.ensures.value (simp (to_z-of_z, with_minus-abs))))

@@ -1,5 +1,5 @@
 use Rattle.wi_fraction.proofs.Vocabulary.{rules, ◌∙◌, FitsSigned, w128, to_z-of_z}
-use Rattle.wi_fraction.proofs.Steps.{multiple_pos, part_fits, sum_no_multiple, sum_no_first, sum_no_second, sum_no_total, sum_from_steps, signed-abs}
+use Rattle.wi_fraction.proofs.Steps.{multiple_pos, part_fits, sum_no_multiple, sum_no_first, sum_no_second, sum_no_total, sum_from_steps, with_minus-abs}
 use Rattle.wi_fraction.proofs.Fraction.unlike_sum.Goals as goal
 
 pub reduced-requires : goal.reduced-requires
@@ -18,7 +18,7 @@ returns c =
     (simp to_z-of_z at (rw c.divide-2.ensures at c.in_ok-first.ensures))
     (simp to_z-of_z at (rw c.divide-3.ensures at c.in_ok-second.ensures))
     (simp to_z-of_z at c.in_ok-total.ensures)
-    (c.reduced.ensures ∙ rw c.unsigned_abs.ensures.value (simp (to_z-of_z, signed-abs))))
+    (c.reduced.ensures ∙ rw c.unsigned_abs.ensures.value (simp (to_z-of_z, with_minus-abs))))
 
 pub scaled-requires : goal.scaled-requires
 scaled-requires c = part_fits _ c.in_ok-multiple.multiple c.parts-a.result.denominator _ c.in_ok-multiple.ensures c.divide-2.ensures

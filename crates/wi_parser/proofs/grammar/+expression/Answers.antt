@@ -11,4 +11,4 @@ pub returns-clause-finds : goal.returns-clause-finds
 unfolding expression
 returns-clause-finds t c =
     let more : c.args.depth ≡ suc (c.args.depth - 1) = omega arith in
-    subst (λ d. Finds (expression d c.args.symbols.now) c.line.result c.line.new.symbols) (sym more) c.line.ensures.finds
+    subst (λ d. Finds (expression d c.args.symbols.now) c.level.result c.level.new.symbols) (sym more) c.level.ensures.finds

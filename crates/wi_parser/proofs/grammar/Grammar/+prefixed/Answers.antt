@@ -1,17 +1,17 @@
-use Rattle.wi_parser.proofs.Words.{arith, ◌<◌, length, Some, OnOk, ap, ◌∙◌, sym, subst, err_from_is_err_and, signed_read, atom, line, expression, Finds, lt_trans}
+use Rattle.wi_parser.proofs.Words.{arith, ◌<◌, length, Some, OnOk, ap, ◌∙◌, sym, subst, err_from_is_err_and, signed_read, atom, level, expression, Finds, lt_trans}
 use Rattle.wi_parser.proofs.Turns.{fails_as, prefix_stop, prefix_more}
 use Rattle.wi_parser.proofs.Shorter.{past_sign}
 use Rattle.wi_parser.proofs.grammar.Grammar.+prefixed.Goals as goal
 
 pub returns-in_default-clause-finds : goal.returns-in_default-clause-finds
-unfolding line
+unfolding level
 returns-in_default-clause-finds g t c =
     let next = atom (expression c.args.self.now.depth) in
     let same = prefix_stop next c.args.symbols.now c.in_default.ensures.0 ∙ ap next (sym c.in_default.ensures.1) in
     subst (λ found. Finds found c.atom.result c.atom.new.symbols) (sym same) c.atom.ensures.finds
 
 pub returns-in_err-operand-clause-finds : goal.returns-in_err-operand-clause-finds
-unfolding line
+unfolding level
 returns-in_err-operand-clause-finds g t c =
     let next = atom (expression c.args.self.now.depth) in
     let s = c.in-Some.sign in
@@ -21,7 +21,7 @@ returns-in_err-operand-clause-finds g t c =
     c.in_err-operand.ensures.finds)
 
 pub returns-clause-finds : goal.returns-clause-finds
-unfolding line
+unfolding level
 returns-clause-finds g t c =
     let next = atom (expression c.args.self.now.depth) in
     let s = c.in-Some.sign in

@@ -1,17 +1,17 @@
-use Rattle.wi_parser.proofs.Words.{arith, ◌<◌, length, Some, ap, sym, subst, ◌∙◌, err_from_is_err_and, read_then, percents, line, tree_of}
+use Rattle.wi_parser.proofs.Words.{arith, ◌<◌, length, Some, ap, sym, subst, ◌∙◌, err_from_is_err_and, read_then, percents, level, tree_of}
 use Rattle.wi_parser.proofs.Marks.{percent-length}
 use Rattle.wi_parser.proofs.Turns.{fails_as, percents_stop, percents_more}
 use Rattle.wi_parser.proofs.Shorter.{past_percent}
 use Rattle.wi_parser.proofs.grammar.Grammar.percents.Goals as goal
 
 pub returns-in_err-operand-clause-finds : goal.returns-in_err-operand-clause-finds
-unfolding line
+unfolding level
 returns-in_err-operand-clause-finds g c =
     let p = err_from_is_err_and c.from_residual.result c.from_residual.ensures.1 in
     rw (p.1, p.2) (fails_as c.in_err-operand.field-0.0 _ _ (λ none. ap (read_then percents) none) c.in_err-operand.ensures.finds)
 
 pub loop-operand-init : goal.loop-operand-init
-unfolding line
+unfolding level
 loop-operand-init g c = (ap (read_then percents) c.in_ok-operand.ensures.finds, c.in_ok-operand.ensures.shorter)
 
 pub loop-operand-preserved : goal.loop-operand-preserved

@@ -4,7 +4,7 @@ use Rattle.wi_parser.proofs.grammar.Grammar.percents.Given as goal
 
 abbrev pub invariant-loop-operand : goal.invariant-loop-operand
 invariant-loop-operand g l =
-    (reader.line (reader.expression l.self.depth) 2 l.fn.symbols ≡ reader.percents (tree_of l.operand) l.symbols)
+    (reader.level (reader.expression l.self.depth) 2 l.fn.symbols ≡ reader.percents (tree_of l.operand) l.symbols)
     × (length l.symbols < length l.fn.symbols)
 
 abbrev pub decreases-loop-operand : goal.decreases-loop-operand

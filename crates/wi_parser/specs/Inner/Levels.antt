@@ -1,4 +1,4 @@
--- Which symbols spell which tree, by the lines of the grammar (OpenFormula, "Expression Syntax"). A law ties it to what
+-- Which symbols spell which tree, by the levels of the grammar (OpenFormula, "Expression Syntax"). A law ties it to what
 -- grammatical trees are spelled as.
 use Rattle.std.specs.Prelude.{◌≡◌, ℕ, suc, List, [], ◌∷◌, ◌++◌}
 use Rattle.wi_fraction.specs.Number.{Number}
@@ -7,16 +7,16 @@ use Rattle.wi_parser.specs.declared.expr.Operator.{Operator}
 use Rattle.wi_parser.specs.declared.expr.Reference.{Reference}
 use Rattle.wi_parser.specs.declared.expr.Sign.{Sign}
 use Rattle.wi_parser.specs.Tree.{Tree, number, cell, rectangle, parenthesized, signed, percent, binary, what_if, Trees, text, call, no_trees, more_trees}
-use Rattle.wi_parser.specs.Grammar.{line_of}
+use Rattle.wi_parser.specs.Grammar.{level_of}
 use Rattle.wi_parser.specs.Inner.WhatIf.{pair_symbols, what_if_symbols}
 use Rattle.wi_parser.specs.Symbol.{Symbol, numeral, reference, corners, open_parenthesis, close_parenthesis, separator, infix_mark, sign_mark, percent_mark, text_literal, name}
 
--- the line of a whole formula
+-- the level of a whole formula
 abbrev pub loosest : ℕ
 loosest = 7
 
 mutual
-  -- The symbols spell the tree by line k: 0 Atom, 1 Prefix, 2 Percent, 3 Power, 4 Product, 5 Sum, 6 Concat, 7 Compare.
+  -- The symbols spell the tree by level k: 0 Atom, 1 Prefix, 2 Percent, 3 Power, 4 Product, 5 Sum, 6 Concat, 7 Compare.
   pub data Spells : ℕ → Tree → List Symbol → Type 0 where
     a_number : (x : Number) → Spells 0 (number x) (numeral x ∷ [])
     a_text : (s : List ℕ) → Spells 0 (text s) (text_literal s ∷ [])
@@ -32,10 +32,10 @@ mutual
     with_sign : (s : Sign) (t : Tree) (ts : List Symbol) → Spells 1 t ts → Spells 1 (signed s t) (sign_mark s ∷ ts)
     -- a percent mark after an operand, which may have one too
     with_percent : (t : Tree) (ts : List Symbol) → Spells 2 t ts → Spells 2 (percent t) (ts ++ percent_mark ∷ [])
-    -- what a tighter line spells
+    -- what a tighter level spells
     tighter : (k : ℕ) (t : Tree) (ts : List Symbol) → Spells k t ts → Spells (suc k) t ts
-    -- an operator of the line between two operands, of which the left may have one too
-    joined : (k : ℕ) (op : Operator) (l r : Tree) (ls rs : List Symbol) → line_of op ≡ suc k → Spells (suc k) l ls → Spells k r rs
+    -- an operator of the level between two operands, of which the left may have one too
+    joined : (k : ℕ) (op : Operator) (l r : Tree) (ls rs : List Symbol) → level_of op ≡ suc k → Spells (suc k) l ls → Spells k r rs
         → Spells (suc k) (binary op l r) (ls ++ infix_mark op ∷ rs)
 
   -- the symbols spell parameters and the parenthesis that closes
