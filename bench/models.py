@@ -22,6 +22,11 @@ def cells(column: str, first: int, count: int) -> list[str]:
     return [f"set {column}{first + row} {row + 1}" for row in range(count)]
 
 
+def repeated(count: int, *lines: str) -> list[str]:
+    """The lines so many times, and in them the number of the time, from 1 on, where `#` stands."""
+    return [line.replace("#", str(time)) for time in range(1, count + 1) for line in lines]
+
+
 def numbers(length: int) -> list[str]:
     """A column of numbers."""
     return cells("A", 1, length)
@@ -48,8 +53,7 @@ def model_with_if(formulas: int, entries: int) -> list[str]:
 
 def each(count: int, column: str, formula: str) -> list[str]:
     """So many cells of a column with a formula, in which `#` stands for the row, and then all of them shown."""
-    cells = [f"set {column}{row} {formula.replace('#', str(row))}" for row in range(1, count + 1)]
-    return cells + [f"show {column}1:{column}{count}"]
+    return repeated(count, f"set {column}# {formula}") + [f"show {column}1:{column}{count}"]
 
 
 def csv(columns: int, rows: int) -> list[str]:

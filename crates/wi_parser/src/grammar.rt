@@ -153,8 +153,8 @@ impl<F: Fn(Global, &mut Symbols<'_>, usize) -> Result<Expr, ParseFault>> Grammar
         Ok(operand)
     }
 
-    /// A level of the grammar from percents, which are level 2, to comparisons: an operand, and each operator of the level
-    /// or a tighter one, with a right operand of the level below the operator's.
+    /// A level of the grammar from percents, which are level 2, to comparisons: an operand, and each operator of the
+    /// level or a tighter one, with a right operand of the level below the operator's.
     fn level(&self, symbols: &mut Symbols<'_>, level: u8) -> Result<Expr, ParseFault>
         requires nests { Nests self.now.depth (F.pre self.now.expression)
             (F.post self.now.expression) }
