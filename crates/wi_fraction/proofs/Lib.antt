@@ -20,6 +20,7 @@ pub mod Spelled
 pub mod Steps
 pub mod Tenths
 pub mod Texts
+pub mod Totals
 pub mod Values
 pub mod Wholes
 pub mod Written

@@ -18,7 +18,7 @@ pub add-mul : (p q : ℤ) (k : ℕ) → (p +ℤ q) *ℤ pos k ≡ p *ℤ pos k +
 add-mul p q zero = omega (arith, ints, mul-none (p +ℤ q), mul-none p, mul-none q)
 add-mul p q (suc k) = omega (arith, ints, mul-suc (p +ℤ q) k, mul-suc p k, mul-suc q k, add-mul p q k)
 
-abs-div : (n : ℤ) (g : ℕ) → unsigned_abs (int_div n (pos g)) ≡ unsigned_abs n / g
+pub abs-div : (n : ℤ) (g : ℕ) → unsigned_abs (int_div n (pos g)) ≡ unsigned_abs n / g
 abs-div (pos a) g = refl
 abs-div (negsuc a) g = abs-with_minus true (suc a / g)
 
@@ -39,7 +39,7 @@ value_of n d z e =
 bounded-is : (m n : ℕ) → bounded n ≡ Some m → m ≡ n
 bounded-is m n e = (bounded-some n m (sym e)).0
 
-same_from_mul : (p q : ℤ) (k : ℕ) → 0 < k → p *ℤ pos k ≡ q *ℤ pos k → p ≡ q
+pub same_from_mul : (p q : ℤ) (k : ℕ) → 0 < k → p *ℤ pos k ≡ q *ℤ pos k → p ≡ q
 same_from_mul p q k some e =
     by_rank p q (p ≡ q) (int_cmp p q) (int_ranks p q)
     (λ l. absurd (int_irrefl (q *ℤ pos k) (subst (λ v. v <ℤ (q *ℤ pos k)) e (mul_below p q k some l))))
@@ -71,7 +71,7 @@ over_multiple a c total u b d L v some hb hd t e =
     same_from_mul _ _ L some
     (turn (a *ℤ pos d +ℤ c *ℤ pos b) v L ∙ ap (λ n. n *ℤ pos v) both ∙ turn total (b * d) v ∙ ap (λ n. n *ℤ pos (b * d)) e ∙ turn u L (b * d))
 
-dvd_lcm : (b d : ℕ) → b ∣ b / gcd b d * d
+pub dvd_lcm : (b d : ℕ) → b ∣ b / gcd b d * d
 dvd_lcm b d =
     let i = is_gcd b d in
     let e : b / gcd b d * d ≡ b * (d / gcd b d) = ap (λ n. b / gcd b d * n) (sym (div-mul_cancel (gcd b d) i.1) ∙ mul_comm (d / gcd b d) (gcd b d)) ∙ sym (mul_assoc (b / gcd b d) (gcd b d) (d / gcd b d)) ∙ ap (λ n. n * (d / gcd b d)) (div-mul_cancel (gcd b d) i.0) in
@@ -146,7 +146,7 @@ value_by {E} (Some z) e r P is f = subst (λ (s : Result Number E). IfOk s P) (s
 -- ---- the number that has a value
 
 -- of two fractions of one value, the one in lowest terms and the number have the same parts
-number_by_value : (n : ℤ) (d : ℕ) (z : Number) → 0 < d → n *ℤ pos z.den ≡ z.num *ℤ pos d → number_of n d ≡ Some z
+pub number_by_value : (n : ℤ) (d : ℕ) (z : Number) → 0 < d → n *ℤ pos z.den ≡ z.num *ℤ pos d → number_of n d ≡ Some z
 unfolding number_of
 number_by_value n d z dp e =
     let g = gcd (unsigned_abs n) d in

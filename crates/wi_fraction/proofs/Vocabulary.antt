@@ -43,6 +43,8 @@ unfoldable pub use Rattle.wi_fraction.specs.Inner.Places.{places_from}
 pub use Rattle.wi_fraction.specs.Inner.Reading.{decimal_value, is_numeral, lowered, raised, read_quotient}
 unfoldable pub use Rattle.wi_fraction.specs.Inner.Reading.{decimal_after, exponent_after, point_after, read, read_after, read_decimal, read_size, scaled_after, with_exponent}
 pub use Rattle.wi_fraction.specs.Inner.Signs.{is_exponent_letter, sign_text}
+pub use Rattle.wi_fraction.specs.Inner.Totals.{AreParts}
+unfoldable pub use Rattle.wi_fraction.specs.Inner.Totals.{number_over}
 pub use Rattle.wi_fraction.specs.Inner.Words.{number_in}
 pub use Rattle.wi_fraction.specs.Laws.{DecimalsReadBack, HasFloor, IsExact, IsGreatestNotAbove, IsLeastNotBelow, IsNearest, IsRounded, NotAbove, NotBelow, ReadsBack, ReadsWhatIsSpelled, ReadsWhatIsWritten, ShowsFewestPlaces, distance}
 pub use Rattle.wi_fraction.specs.Number.{IsNumber, Number, max_size, number_at, with_minus}

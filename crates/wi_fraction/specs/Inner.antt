@@ -4,4 +4,5 @@ pub mod Halves
 pub mod Places
 pub mod Reading
 pub mod Signs
+pub mod Totals
 pub mod Words

@@ -219,7 +219,7 @@ fn product(a: u128, b: u128) -> Option<u128>
 }
 
 /// The multiple of a numerator, where it is small enough.
-fn scaled(n: i128, by: u128) -> Option<i128>
+pub(crate) fn scaled(n: i128, by: u128) -> Option<i128>
     requires { by ≤ max_size }
     ensures { result ≡ int_bounded (n *ℤ pos by) }
 {
@@ -228,7 +228,7 @@ fn scaled(n: i128, by: u128) -> Option<i128>
 
 /// The sum of two numerators, where it is small enough.
 #[inline(always)]
-fn total(a: i128, b: i128) -> Option<i128>
+pub(crate) fn total(a: i128, b: i128) -> Option<i128>
     ensures { result ≡ int_bounded (a +ℤ b) }
 {
     bounded(a.checked_add(b)?)
@@ -239,9 +239,5 @@ fn total(a: i128, b: i128) -> Option<i128>
 fn bounded(n: i128) -> Option<i128>
     ensures { result ≡ int_bounded n }
 {
-    if n.unsigned_abs() <= MAX {
-        Some(n)
-    } else {
-        None
-    }
+    if n == i128::MIN { None } else { Some(n) }
 }
