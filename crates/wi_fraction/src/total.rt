@@ -110,7 +110,7 @@ fn numerator_with(n: i128, d: u128, other: &Fraction) -> Option<i128>
     }
 }
 
-/// The same where the denominators differ.
+/// As `numerator_with`, where the denominators differ.
 #[inline(never)]
 fn scaled_with(n: i128, d: u128, other: &Fraction) -> Option<i128>
     requires { AreParts n d }
