@@ -1,5 +1,5 @@
 -- The answer to a command, as a call finds it.
-use Rattle.wi_scenarios.proofs.Words.{◌≡◌, true, List, [], Result, Ok, Err, sym, subst, MatchResult, IsErrAnd, err_from_is_err_and, Refusal, Memory, State, Answer, may_grow, MayRefuse, Serves}
+use Rattle.wi_scenarios.proofs.Words.{◌≡◌, ◌∙◌, true, List, [], Result, Ok, Err, refl, sym, ap, subst, MatchResult, IsErrAnd, err_from_is_err_and, Refusal, Memory, State, Answer, may_grow, MayRefuse, Serves}
 use Rattle.std.specs.Prelude.{ℕ}
 
 -- ---- a call that did as the answer that is found says, or refused
@@ -20,6 +20,13 @@ refused e IsAnswer found is only h = only (Err e) h
 pub serves : (IsAnswer : Answer → Type 0) (found : Answer) → IsAnswer found → (r : Result (Unit {0}) Refusal) (s t : State) (records : List ℕ) → ServesFound found r s t records → Serves IsAnswer r s t records
 serves IsAnswer found is (Ok u) s t records h = subst IsAnswer h is
 serves IsAnswer found is (Err e) s t records h = (refused e IsAnswer found is (λ a k. subst IsAnswer k is) h.0, h.1, h.2)
+
+-- one that ran out of memory, which may stand in place of an answer before which something may grow
+pub lacked : (IsAnswer : Answer → Type 0) (step : Answer) (r : Result (Unit {0}) Refusal) (s t : State) → IsAnswer step → may_grow step ≡ true → IsErrAnd r (λ e. e ≡ Memory) → t ≡ s
+    → Serves IsAnswer r s t []
+lacked IsAnswer step r s t is grows k same =
+    let p = err_from_is_err_and r k in
+    subst (λ (x : Result (Unit {0}) Refusal). Serves IsAnswer x s t []) (sym (p.1 ∙ ap Err p.2)) (record { answer = step; is_answer = is; grows = grows }, same, refl)
 
 -- ---- a call that did as another one
 

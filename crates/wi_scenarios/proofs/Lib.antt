@@ -1,4 +1,5 @@
 pub mod AnswerLemmas
+pub mod CallLemmas
 pub mod EditLemmas
 pub mod LookLemmas
 pub mod ChangesLemmas

@@ -1,5 +1,5 @@
 -- The steps of the commands that look at cells, by what their bodies find.
-use Rattle.wi_scenarios.proofs.Words.{◌≡◌, ◌∙◌, ◌*◌, ℕ, Bool, true, false, ◌||◌, nat_lt, List, [], ◌∷◌, ◌++◌, length, Option, Some, None, Result, Ok, Err, refl, sym, ap, subst, arith, list_any, or-false, Area, size_of, effective, lacks, rows_shown, export_of, cells_compared, shown, content_record, change_records, told, Refusal, State, max_area, current_session, with_current, current_replacements, Answer, Serves, change_list}
+use Rattle.wi_scenarios.proofs.Words.{◌≡◌, ◌∙◌, ◌*◌, ℕ, Bool, true, false, ◌||◌, nat_lt, List, [], ◌∷◌, length, Option, Some, None, Result, Ok, Err, refl, sym, ap, subst, arith, list_any, or-false, Area, size_of, effective, lacks, rows_shown, export_of, cells_compared, shown, content_record, change_records, told, Refusal, State, max_area, current_session, with_current, current_replacements, Answer, ServesInto, change_list}
 use Rattle.wi_scenarios.specs.declared.refusal.Refusal.TheVariants as refusal
 use Rattle.wi_scenarios.specs.Inner.Placed.{IsPlaced, IsSpanned}
 use Rattle.wi_scenarios.proofs.CommandWords.{Command, Show, Export, Compare, Formula, Changes, form, Cell, Corners, RECT, SIDE, is_outside, address, area, cell, corners, Put, Puts, Cause, Outside, TooLarge, NoScenario, lies_outside, is_missing, size, stale_cell, Does, IsStep, causes}
@@ -9,7 +9,7 @@ use Rattle.wi_scenarios.proofs.LookLemmas.{Looked}
 
 -- a call that wrote some records, and did as an answer of a step says
 looked_step : (s : State) (c : Command) (step : Answer) → IsStep s c step → (r : Result (Unit {0}) Refusal) (t : State) (before after : List ℕ) → Looked step r s t before after
-    → (records : List ℕ) × (after ≡ before ++ records) × Serves (IsStep s c) r s t records
+    → ServesInto (IsStep s c) r s t before after
 looked_step s c step is r t before after h =
     (h.0, h.1, serves_as (λ a. step ≡ a) (IsStep s c) (λ a e. subst (IsStep s c) e is) r s t h.0 h.2)
 
@@ -164,5 +164,5 @@ module _ (s : State) where
   changes_step = tested_step s Changes changes_test changes_tested refl (λ q h. h) after_changes (λ e. refl) None refl
 
   pub changes_served : (r : Result (Unit {0}) Refusal) (t : State) (before after : List ℕ) → Looked (Ok after_changes) r s t before after
-      → (records : List ℕ) × (after ≡ before ++ records) × Serves (IsStep s Changes) r s t records
+      → ServesInto (IsStep s Changes) r s t before after
   changes_served r t before after h = looked_step s Changes (Ok after_changes) changes_step r t before after h

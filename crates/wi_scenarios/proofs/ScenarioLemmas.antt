@@ -1,42 +1,48 @@
 -- What commands about scenarios answer.
-use Rattle.wi_scenarios.proofs.Words.{◌≡◌, ◌≢◌, ◌↔◌, ◌∙◌, ℕ, Bool, true, false, not, ◌||◌, List, [], Option, Some, None, Result, Ok, Err, refl, sym, subst, IsErrOf, IsErrAnd, err_from_is_err_and, Value, FieldFault, imported, imported_exactly, has_scenario, is_full, lacks, Refusal, Memory, State, Answer, Serves, field_refusal, inl, on_err, Sheet, Stored, Desk, state_of, IsSound, ServesSound, MakesSound, AllocError}
+use Rattle.wi_scenarios.proofs.Words.{◌≡◌, ◌≢◌, ◌↔◌, ◌∙◌, ℕ, Bool, true, false, not, ◌||◌, List, [], Option, Some, None, Result, Ok, Err, refl, sym, subst, IsErrOf, IsErrAnd, err_from_is_err_and, Value, FieldFault, imported, imported_exactly, has_scenario, is_full, lacks, Refusal, Memory, State, Serves, field_refusal, on_err, Sheet, Stored, Desk, book_of, state_of, IsSound, ServesSound, MakesSound, AllocError}
 use Rattle.wi_values.specs.declared.import.FieldFault.TheVariants as field
 use Rattle.wi_scenarios.specs.Inner.Placed.{IsPlaced}
-use Rattle.wi_scenarios.proofs.CommandWords.{Scenario, cell, IsStep}
+use Rattle.wi_scenarios.proofs.CommandWords.{Command, Scenario, cell, IsStep}
+use Rattle.wi_scenarios.proofs.AnswerLemmas.{lacked}
+use Rattle.wi_scenarios.proofs.CallLemmas.{unchanged}
 use Rattle.wi_scenarios.proofs.ScenarioSteps.{put_state, put_answer, put_of}
-
--- ---- calls that run out of memory
-
--- it may stand in place of an answer that does something
-pub lacked : (IsAnswer : Answer → Type 0) (done : State × List ℕ) (r : Result (Unit {0}) Refusal) (s t : State) → IsAnswer (Ok done) → IsErrAnd r (λ e. e ≡ Memory) → t ≡ s
-    → Serves IsAnswer r s t []
-lacked IsAnswer done r s t e k same =
-    let found = err_from_is_err_and r k in
-    subst (λ (x : Result (Unit {0}) Refusal). Serves IsAnswer x s t []) (sym found.1)
-    (subst (λ (x : Refusal). Serves IsAnswer (Err x) s t []) (sym found.2) (record { answer = Ok done; is_answer = e; grows = refl }, same, refl))
 
 -- ---- what a command leaves
 
--- a call that changed nothing
-pub nothing_done : {marked : Sheet → List ℕ → ℕ → Bool} {IsAnswer : Answer → Type 0} {stored : Stored} {d : Desk} (r : Result (Unit {0}) Refusal) → IsSound marked stored d
-    → Serves IsAnswer r (state_of stored d) (state_of stored d) [] → ServesSound marked IsAnswer r stored d d
-nothing_done r h e = record { step = e; adds = λ i a l k. inl k; refused = on_err r refl; sound = h }
+module _ {marked : Sheet → List ℕ → ℕ → Bool} {c : Command} {stored : Stored} where
+  -- a call that changed nothing
+  pub nothing_done : {d : Desk} (r : Result (Unit {0}) Refusal) → IsSound marked stored d → Serves (IsStep (state_of stored d) c) r (state_of stored d) (state_of stored d) [] → ServesSound marked c r stored d d
+  nothing_done {d} r h e = record { edit = λ evaluated restarted. unchanged r (book_of stored evaluated restarted d) e; sound = h }
 
--- a call that ran out of memory before it changed anything, and one that did so in the call that makes the change
-pub lacked_first : {marked : Sheet → List ℕ → ℕ → Bool} {IsAnswer : Answer → Type 0} {stored : Stored} {d : Desk} (done : State × List ℕ) (r : Result (Unit {0}) Refusal) → IsSound marked stored d
-    → IsAnswer (Ok done) → IsErrAnd r (λ e. e ≡ Memory) → ServesSound marked IsAnswer r stored d d
-lacked_first {marked} {IsAnswer} {stored} {d} done r h e k = nothing_done r h (lacked IsAnswer done r (state_of stored d) (state_of stored d) e k refl)
+  -- a call that ran out of memory before it changed anything, and one that did so in the call that makes the change
+  pub lacked_first : {d : Desk} (done : State × List ℕ) (r : Result (Unit {0}) Refusal) → IsSound marked stored d → IsStep (state_of stored d) c (Ok done) → IsErrAnd r (λ e. e ≡ Memory)
+      → ServesSound marked c r stored d d
+  lacked_first {d} done r h e k = nothing_done r h (lacked (IsStep (state_of stored d) c) (Ok done) r (state_of stored d) (state_of stored d) e refl k refl)
 
-pub lacked_last : {marked : Sheet → List ℕ → ℕ → Bool} {IsAnswer : Answer → Type 0} {x : AllocError} {stored : Stored} {made : State} {old new : Desk} (done : State × List ℕ) (r : Result (Unit {0}) Refusal)
-    → IsAnswer (Ok done) → IsErrAnd r (λ e. e ≡ Memory) → MakesSound marked (Err x) stored made old new → ServesSound marked IsAnswer r stored old new
-lacked_last {marked} {IsAnswer} {x} {stored} {made} {old} {new} done r e k w =
-    record { step = lacked IsAnswer done r (state_of stored old) (state_of stored new) e k w.kept; adds = w.adds; refused = on_err r w.refused; sound = w.sound }
+  pub lacked_last : {x : AllocError} {made : State} {old new : Desk} (done : State × List ℕ) (r : Result (Unit {0}) Refusal) → IsStep (state_of stored old) c (Ok done) → IsErrAnd r (λ e. e ≡ Memory)
+      → MakesSound marked (Err x) stored made old new → ServesSound marked c r stored old new
+  lacked_last {old = old} {new = new} done r e k w = record {
+    edit = λ evaluated restarted. record {
+      step = lacked (IsStep (state_of stored old) c) (Ok done) r (state_of stored old) (state_of stored new) e refl k w.kept;
+      adds = w.adds;
+      refused = on_err r w.refused;
+      counts = (refl, refl);
+    };
+    sound = w.sound;
+  }
 
--- a call that made the change
-pub done_with : {marked : Sheet → List ℕ → ℕ → Bool} {IsAnswer : Answer → Type 0} {u : Unit {0}} {stored : Stored} {made : State} {old new : Desk} (next : State) → IsAnswer (Ok (next, [])) → made ≡ next
-    → MakesSound marked (Ok u) stored made old new → ServesSound marked IsAnswer (Ok tt) stored old new
-done_with {marked} {IsAnswer} next e same w =
-    record { step = subst (λ (t : State). IsAnswer (Ok (t, []))) (sym (w.state ∙ same)) e; adds = w.adds; refused = tt; sound = w.sound }
+  -- a call that made the change
+  pub done_with : {u : Unit {0}} {made : State} {old new : Desk} (next : State) → IsStep (state_of stored old) c (Ok (next, [])) → made ≡ next → MakesSound marked (Ok u) stored made old new
+      → ServesSound marked c (Ok tt) stored old new
+  done_with {old = old} next e same w = record {
+    edit = λ evaluated restarted. record {
+      step = subst (λ (t : State). IsStep (state_of stored old) c (Ok (t, []))) (sym (w.state ∙ same)) e;
+      adds = w.adds;
+      refused = tt;
+      counts = (refl, refl);
+    };
+    sound = w.sound;
+  }
 
 -- ---- a text that isn't read
 

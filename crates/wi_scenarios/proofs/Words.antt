@@ -60,13 +60,14 @@ unfoldable pub use Rattle.wi_scenario_list.specs.Scenarios.{chain}
 pub use Rattle.wi_scenario_list.specs.Inner.Parts.{scenario_or_new}
 pub use Rattle.wi_scenario_list.specs.Scenarios.{Scenario, chain_within, has_scenario, is_full, is_named, layered, max_scenarios, scenario_for, scenario_of, with_own, with_scenario, without_own, without_scenario}
 pub use Rattle.wi_scenarios.specs.Answer.{Answer, MayRefuse, MayRefuseData, Serves, ServesData, field_refusal, import_refusal, may_grow, parse_refusal, shift_refusal}
-pub use Rattle.wi_scenarios.specs.Asked.{asked_by_changes, asked_by_compare, asked_by_show, asked_by_table}
+pub use Rattle.wi_scenarios.specs.Asked.{asked_by_compare, asked_by_show, asked_by_table}
 pub use Rattle.wi_scenarios.specs.Changes.{change_list}
 pub use Rattle.wi_scenarios.specs.Events.{Event, ForcedIsNotStale, IsCoherent, IsFirstNewer, KeepsApart, ListsAddUp, LogGrows, MayFollow, MayHappen, RecordsTellList, StaleIsNewer, StaysCoherent, change_fields, counts_before, edits_in, edits_since, is_accepted_changes, is_newer, is_refused_before, is_told, last_shown, left_by, lists_told, logged, logged_by, state_after, unseen, with_lists}
 pub use Rattle.wi_scenarios.specs.Inner.Copies.{AreCopies, CopiesAs, HasNoCopies, columns_between, copy_to, has_no_copy, or_nothing, rows_between}
 pub use Rattle.wi_scenarios.specs.Inner.EditAnswer.{Edit, answer_by, edit_answer, limit_of, stale_in, with_stored}
+pub use Rattle.wi_scenarios.specs.Inner.Calls.{Edits, IsAs, IsChanges, IsDrop, IsEdit, IsImport, IsMade, Looks, ServesInto}
 pub use Rattle.wi_scenarios.specs.Inner.Editing.{AreMarked, Commits, HasRooms, MayFail, SameBeside}
-pub use Rattle.wi_scenarios.specs.Inner.Sound.{AreClosed, AreCovered, IsClosed, IsSound, IsUpToDate, MakesSound, ServesSound, pending_in, state_of}
+pub use Rattle.wi_scenarios.specs.Inner.Sound.{AreClosed, AreCovered, IsClosed, IsSound, IsUpToDate, MakesSound, ServesSound, book_by, book_of, pending_in, state_of}
 pub use Rattle.wi_scenarios.specs.Inner.Switch.{AreDiffering, Differs, HasRoom, HasRoomFor, differing, same_option}
 pub use Rattle.wi_scenarios.specs.Inner.Told.{IsTold}
 pub use Rattle.wi_scenarios.specs.Commands.Edits.{copied}

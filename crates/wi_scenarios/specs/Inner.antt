@@ -2,6 +2,7 @@
 pub mod Copies
 pub mod EditAnswer
 pub mod Editing
+pub mod Calls
 pub mod Sound
 pub mod Switch
 pub mod Told

@@ -5,8 +5,7 @@ ghost use Rattle.std.specs.Option.{option_copied};
 ghost use Rattle.wi_scenario_list.specs.Scenarios.{has_scenario, scenario_for, with_scenario};
 ghost use Rattle.wi_scenario_list.specs.Bases.{lacks, would_loop, based_on};
 ghost use Rattle.wi_scenarios.specs.Commands.Command as command;
-ghost use Rattle.wi_scenarios.specs.Commands.Step.{IsStep};
-ghost use Rattle.wi_scenarios.specs.Inner.Sound.{state_of, IsSound, ServesSound};
+ghost use Rattle.wi_scenarios.specs.Inner.Sound.{IsSound, ServesSound};
 
 use crate::desk::Desk;
 use crate::refusal::Refusal;
@@ -26,9 +25,8 @@ pub(crate) fn base<C: Calculator>(
     other: Option<&str>,
 ) -> Result<(), Refusal>
     requires { IsSound C.marked (C.stored calculator.now) desk.old }
-    ensures { let old = state_of (C.stored calculator.now) desk.old in
-        ServesSound C.marked (IsStep old (command.Base name.now (option_copied other.entry)))
-        result (C.stored calculator.now) desk.old desk.new }
+    ensures { ServesSound C.marked (command.Base name.now (option_copied other.entry)) result
+        (C.stored calculator.now) desk.old desk.new }
 {
     if is_any_missing(&desk.scenarios, name, other) {
         return Err(Refusal::NoScenario);

@@ -1,16 +1,14 @@
 //! The command `changes`: what has changed since the current session was last shown it.
 
-ghost use Rattle.std.specs.Prelude.{◌≡◌, ◌<◌, ◌++◌, ℕ, List, [], true, length, is_ok, IfOk, MatchResult, OnOk, OnErr};
+ghost use Rattle.std.specs.Prelude.{◌≡◌, ◌<◌, ◌++◌, [], true, length, is_ok, IfOk, MatchResult, OnOk, OnErr};
 ghost use Rattle.wi_sessions.specs.Roster.{pending_of, vacant_of};
 ghost use Rattle.wi_reports.specs.Changes.{change_records};
 ghost use Rattle.wi_reports.specs.Looks.{Costs};
-ghost use Rattle.wi_scenarios.specs.Answer.{Serves};
 ghost use Rattle.wi_scenarios.specs.Changes.{change_list};
-ghost use Rattle.wi_scenarios.specs.Commands.Command as command;
-ghost use Rattle.wi_scenarios.specs.Commands.Step.{IsStep};
-ghost use Rattle.wi_scenarios.specs.Pending.{Emptied, pending_for};
+ghost use Rattle.wi_scenarios.specs.Pending.{pending_for};
 ghost use Rattle.wi_scenarios.specs.Asked.{asked_by_changes};
-ghost use Rattle.wi_scenarios.specs.Inner.Sound.{state_of, pending_in, IsSound};
+ghost use Rattle.wi_scenarios.specs.Inner.Calls.{IsChanges};
+ghost use Rattle.wi_scenarios.specs.Inner.Sound.{book_by, state_of, pending_in, IsSound};
 ghost use Rattle.wi_scenarios.specs.Inner.Told.{IsTold};
 
 use crate::desk::Desk;
@@ -32,26 +30,10 @@ pub(crate) fn changes<C: Calculator>(
     out: &mut Vec<u8>,
 ) -> Result<(), Refusal>
     requires { IsSound C.marked (C.stored calculator.old) desk.old }
-    ensures step { let old = state_of (C.stored calculator.old) desk.old in
-        (records : List ℕ) × (out.new.items ≡ out.old.items ++ records)
-        × Serves (IsStep old command.Changes)
-        result old (state_of (C.stored calculator.new) desk.new) records }
+    ensures told { let book = book_by C.stored C.evaluated C.restarted in
+        IsChanges result (book calculator.old desk.old) (book calculator.new desk.new)
+        out.old.items out.new.items }
     ensures same { C.stored calculator.new ≡ C.stored calculator.old }
-    ensures emptied { OnOk result
-        (Emptied desk.old.current (pending_in desk.old) (pending_in desk.new)) }
-    ensures refused { OnErr result (pending_in desk.new ≡ pending_in desk.old) }
-    ensures quiet { pending_for (pending_in desk.old) desk.old.current ≡ []
-        → (C.evaluated calculator.new ≡ C.evaluated calculator.old)
-        × (C.restarted calculator.new ≡ C.restarted calculator.old)
-        × (out.new.items ≡ out.old.items) }
-    ensures quiet_ok { pending_for (pending_in desk.old) desk.old.current ≡ []
-        → is_ok result ≡ true }
-
-    // No more is evaluated than what its pending cells demand, also where memory runs out.
-    ensures cost { let old = state_of (C.stored calculator.old) desk.old in
-        Costs old.stored.sheet (asked_by_changes old (pending_in desk.old))
-        (C.evaluated calculator.old, C.restarted calculator.old)
-        (C.evaluated calculator.new, C.restarted calculator.new) }
     ensures sound { IsSound C.marked (C.stored calculator.new) desk.new }
 {
     let found = find(alloc, calculator, desk)?;

@@ -1,12 +1,11 @@
 //! The command `clear`: empties the cells of a rectangle.
 
-ghost use Rattle.std.specs.Prelude.{◌≡◌, [], map, None, IfOk, OnErr};
-ghost use Rattle.wi_scenarios.specs.Answer.{Serves};
+ghost use Rattle.std.specs.Prelude.{◌≡◌, map, None, IfOk};
 ghost use Rattle.wi_scenarios.specs.Commands.Command as command;
 ghost use Rattle.wi_scenarios.specs.Commands.Operands.{corners};
-ghost use Rattle.wi_scenarios.specs.Commands.Step.{IsStep};
-ghost use Rattle.wi_scenarios.specs.Pending.{AddsOnly, occupied_in};
-ghost use Rattle.wi_scenarios.specs.Inner.Sound.{state_of, pending_in, IsSound};
+ghost use Rattle.wi_scenarios.specs.Pending.{occupied_in};
+ghost use Rattle.wi_scenarios.specs.Inner.Calls.{IsEdit};
+ghost use Rattle.wi_scenarios.specs.Inner.Sound.{book_by, IsSound};
 
 use crate::areas::is_spanned;
 use crate::desk::Desk;
@@ -28,17 +27,11 @@ pub(crate) fn clear<C: Calculator>(
     force: bool,
 ) -> Result<(), Refusal>
     requires { IsSound C.marked (C.stored calculator.old) desk.old }
-    ensures step { let old = state_of (C.stored calculator.old) desk.old in
-        Serves (IsStep old (command.Clear force (corners area)))
-        result old (state_of (C.stored calculator.new) desk.new) [] }
-    ensures adds { AddsOnly C.marked
-        (occupied_in (C.stored calculator.old).sheet area)
-        (state_of (C.stored calculator.old) desk.old)
-        (state_of (C.stored calculator.new) desk.new) (pending_in desk.old) (pending_in desk.new) }
-    ensures refused { OnErr result (pending_in desk.new ≡ pending_in desk.old) }
+    ensures edit { let book = book_by C.stored C.evaluated C.restarted in
+        IsEdit C.marked (occupied_in (C.stored calculator.old).sheet area)
+        (command.Clear force (corners area))
+        result (book calculator.old desk.old) (book calculator.new desk.new) }
     ensures sound { IsSound C.marked (C.stored calculator.new) desk.new }
-    ensures counts { (C.evaluated calculator.new ≡ C.evaluated calculator.old)
-        × (C.restarted calculator.new ≡ C.restarted calculator.old) }
 {
     is_spanned(area);
     let cells = occupied_in(alloc, calculator, area)?;

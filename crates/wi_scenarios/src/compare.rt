@@ -1,18 +1,17 @@
 //! The command `compare`: the cells of a rectangle whose values under two scenarios differ.
 
-ghost use Rattle.std.specs.Prelude.{◌≡◌, ◌++◌, ◌||◌, ℕ, List, OnOk, OnErr};
+ghost use Rattle.std.specs.Prelude.{◌≡◌, ◌++◌, ◌||◌, OnOk, OnErr};
 ghost use Rattle.std.specs.Option.{option_copied};
 ghost use Rattle.wi_scenario_list.specs.Inner.Chains.{effective};
 ghost use Rattle.wi_scenario_list.specs.Bases.{lacks};
 ghost use Rattle.wi_sheet.specs.Shown.{shown};
 ghost use Rattle.wi_reports.specs.Compare.{cells_compared};
 ghost use Rattle.wi_reports.specs.Looks.{Costs, comparison_cases};
-ghost use Rattle.wi_scenarios.specs.Answer.{Serves};
 ghost use Rattle.wi_scenarios.specs.Commands.Command as command;
 ghost use Rattle.wi_scenarios.specs.Commands.Operands.{corners};
-ghost use Rattle.wi_scenarios.specs.Commands.Step.{IsStep};
 ghost use Rattle.wi_scenarios.specs.Asked.{asked_by_compare};
-ghost use Rattle.wi_scenarios.specs.Inner.Sound.{state_of, IsSound};
+ghost use Rattle.wi_scenarios.specs.Inner.Calls.{Looks};
+ghost use Rattle.wi_scenarios.specs.Inner.Sound.{book_by, state_of, IsSound};
 
 use crate::areas::{is_spanned, is_too_large};
 use crate::desk::Desk;
@@ -43,17 +42,14 @@ pub(crate) fn compare<C: Calculator>(
     out: &mut Vec<u8>,
 ) -> Result<(), Refusal>
     requires { IsSound C.marked (C.stored calculator.old) desk.now }
-    ensures step { let old = state_of (C.stored calculator.old) desk.now in
-        (records : List ℕ) × (out.new.items ≡ out.old.items ++ records)
-        × Serves (IsStep old (command.Compare (option_copied compared.now.first)
-        (option_copied compared.now.second) (corners area)))
-        result old (state_of (C.stored calculator.new) desk.now) records }
+    ensures looks { let book = book_by C.stored C.evaluated C.restarted in
+        let first = option_copied compared.now.first in
+        let second = option_copied compared.now.second in
+        Looks (command.Compare first second (corners area))
+        (asked_by_compare (state_of (C.stored calculator.old) desk.now) first second area)
+        result (book calculator.old desk.now) (book calculator.new desk.now)
+        out.old.items out.new.items }
     ensures same { C.stored calculator.new ≡ C.stored calculator.old }
-    ensures cost { let old = state_of (C.stored calculator.old) desk.now in
-        Costs old.stored.sheet (asked_by_compare old (option_copied compared.now.first)
-        (option_copied compared.now.second) area)
-        (C.evaluated calculator.old, C.restarted calculator.old)
-        (C.evaluated calculator.new, C.restarted calculator.new) }
 {
     is_spanned(area);
     if is_too_large(area) {

@@ -1,10 +1,7 @@
 //! The command `csv`: puts the fields of a CSV text into cells.
 
-ghost use Rattle.std.specs.Prelude.{◌≡◌, OnErr};
-ghost use Rattle.wi_scenarios.specs.Answer.{ServesData};
-ghost use Rattle.wi_scenarios.specs.Commands.Step.{IsImportStep};
-ghost use Rattle.wi_scenarios.specs.Pending.{AddsOnly, imported_cells};
-ghost use Rattle.wi_scenarios.specs.Inner.Sound.{state_of, pending_in, IsSound};
+ghost use Rattle.wi_scenarios.specs.Inner.Calls.{IsImport};
+ghost use Rattle.wi_scenarios.specs.Inner.Sound.{book_by, IsSound};
 
 use crate::areas::is_placed;
 use crate::desk::Desk;
@@ -27,16 +24,10 @@ pub(crate) fn import<C: Calculator>(
     force: bool,
 ) -> Result<(), Refusal>
     requires { IsSound C.marked (C.stored calculator.old) desk.old }
-    ensures step { let old = state_of (C.stored calculator.old) desk.old in
-        ServesData (IsImportStep old force at text.now)
-        result old (state_of (C.stored calculator.new) desk.new) }
-    ensures adds { AddsOnly C.marked
-        (imported_cells at text.now) (state_of (C.stored calculator.old) desk.old)
-        (state_of (C.stored calculator.new) desk.new) (pending_in desk.old) (pending_in desk.new) }
-    ensures refused { OnErr result (pending_in desk.new ≡ pending_in desk.old) }
+    ensures edit { let book = book_by C.stored C.evaluated C.restarted in
+        IsImport C.marked force at text.now
+        result (book calculator.old desk.old) (book calculator.new desk.new) }
     ensures sound { IsSound C.marked (C.stored calculator.new) desk.new }
-    ensures counts { (C.evaluated calculator.new ≡ C.evaluated calculator.old)
-        × (C.restarted calculator.new ≡ C.restarted calculator.old) }
 {
     is_placed(at);
     let found = read_import(alloc, at, text)?;

@@ -1,14 +1,11 @@
 //! The command `drop`: removes a scenario.
 
-ghost use Rattle.std.specs.Prelude.{◌≡◌, ◌≢◌, ◌<◌, [], length, Err};
+ghost use Rattle.std.specs.Prelude.{◌≡◌, ◌<◌, length};
 ghost use Rattle.std.specs.List.{list_any};
 ghost use Rattle.wi_scenario_list.specs.Bases.{is_name_of};
 ghost use Rattle.wi_sessions.specs.Roster.{session_at};
-ghost use Rattle.wi_scenarios.specs.declared.refusal.Refusal.TheVariants.{Memory};
-ghost use Rattle.wi_scenarios.specs.Answer.{Serves};
-ghost use Rattle.wi_scenarios.specs.Commands.Command as command;
-ghost use Rattle.wi_scenarios.specs.Commands.Step.{IsStep};
-ghost use Rattle.wi_scenarios.specs.Inner.Sound.{state_of, pending_in, IsSound};
+ghost use Rattle.wi_scenarios.specs.Inner.Calls.{IsDrop};
+ghost use Rattle.wi_scenarios.specs.Inner.Sound.{book_by, IsSound};
 
 use crate::desk::Desk;
 use crate::refusal::Refusal;
@@ -23,12 +20,9 @@ pub(crate) fn drop<C: Calculator>(
     name: &str,
 ) -> Result<(), Refusal>
     requires { IsSound C.marked (C.stored calculator.now) desk.old }
-    ensures step { let old = state_of (C.stored calculator.now) desk.old in
-        Serves (IsStep old (command.Drop name.now))
-        result old (state_of (C.stored calculator.now) desk.new) [] }
+    ensures dropped { let book = book_by C.stored C.evaluated C.restarted calculator.now in
+        IsDrop name.now result (book desk.old) (book desk.new) }
     ensures sound { IsSound C.marked (C.stored calculator.now) desk.new }
-    ensures pending { pending_in desk.new ≡ pending_in desk.old }
-    ensures no_memory { result ≢ Err Memory }
 {
     if !desk.scenarios.contains(name) {
         return Err(Refusal::NoScenario);

@@ -1,14 +1,11 @@
 //! One edit of the sheet, by whichever command.
 
-ghost use Rattle.std.specs.Prelude.{◌≡◌, ◌<◌, ◌≤◌, ℕ, [], ◌∷◌, length, IfOk, OnOk, OnErr};
-ghost use Rattle.std.specs.Map.{keys_of};
+ghost use Rattle.std.specs.Prelude.{◌≡◌, ◌<◌, ◌≤◌, ℕ, [], ◌∷◌, length, IfOk, OnOk};
 ghost use Rattle.wi_store.specs.Store.{applied};
 ghost use Rattle.wi_sessions.specs.Roster.{vacant_of, is_pending_for_all};
 ghost use Rattle.wi_sessions.specs.Sessions.{max_sessions};
-ghost use Rattle.wi_scenarios.specs.Answer.{Serves};
-ghost use Rattle.wi_scenarios.specs.Pending.{AddsOnly};
-ghost use Rattle.wi_scenarios.specs.Inner.Sound.{state_of, pending_in, IsClosed, IsSound};
-ghost use Rattle.wi_scenarios.specs.Inner.EditAnswer.{edit_answer};
+ghost use Rattle.wi_scenarios.specs.Inner.Calls.{IsMade};
+ghost use Rattle.wi_scenarios.specs.Inner.Sound.{book_by, IsClosed, IsSound};
 ghost use Rattle.wi_scenarios.specs.Inner.Editing.{stale_on, AreMarked, HasRooms, SameBeside, Commits};
 
 use crate::desk::Desk;
@@ -37,17 +34,10 @@ pub(crate) fn apply_edit<C: Calculator>(
     force: bool,
 ) -> Result<(), Refusal>
     requires { IsSound C.marked (C.stored calculator.old) desk.old }
-    ensures step { let old = state_of (C.stored calculator.old) desk.old in
-        Serves (λ a. edit_answer old force
-        (record { named = named; contents = contents.old }) ≡ a)
-        result old (state_of (C.stored calculator.new) desk.new) [] }
-    ensures adds { AddsOnly C.marked
-        (keys_of contents.old) (state_of (C.stored calculator.old) desk.old)
-        (state_of (C.stored calculator.new) desk.new) (pending_in desk.old) (pending_in desk.new) }
-    ensures refused { OnErr result (pending_in desk.new ≡ pending_in desk.old) }
+    ensures edit { let book = book_by C.stored C.evaluated C.restarted in
+        IsMade C.marked force (record { named = named; contents = contents.old })
+        result (book calculator.old desk.old) (book calculator.new desk.new) }
     ensures sound { IsSound C.marked (C.stored calculator.new) desk.new }
-    ensures counts { (C.evaluated calculator.new ≡ C.evaluated calculator.old)
-        × (C.restarted calculator.new ≡ C.restarted calculator.old) }
 {
     let session = desk.session();
     desk.log.catch_up(session)?;
@@ -65,17 +55,10 @@ fn edit_caught_up<C: Calculator>(
     force: bool,
 ) -> Result<(), Refusal>
     requires { IsSound C.marked (C.stored calculator.old) desk.old }
-    ensures step { let old = state_of (C.stored calculator.old) desk.old in
-        Serves (λ a. edit_answer old force
-        (record { named = named; contents = contents.old }) ≡ a)
-        result old (state_of (C.stored calculator.new) desk.new) [] }
-    ensures adds { AddsOnly C.marked
-        (keys_of contents.old) (state_of (C.stored calculator.old) desk.old)
-        (state_of (C.stored calculator.new) desk.new) (pending_in desk.old) (pending_in desk.new) }
-    ensures refused { OnErr result (pending_in desk.new ≡ pending_in desk.old) }
+    ensures edit { let book = book_by C.stored C.evaluated C.restarted in
+        IsMade C.marked force (record { named = named; contents = contents.old })
+        result (book calculator.old desk.old) (book calculator.new desk.new) }
     ensures sound { IsSound C.marked (C.stored calculator.new) desk.new }
-    ensures counts { (C.evaluated calculator.new ≡ C.evaluated calculator.old)
-        × (C.restarted calculator.new ≡ C.restarted calculator.old) }
 {
     if let Some(at) = first_stale(desk, named.areas(), force) {
         return Err(Refusal::Stale(at));
@@ -103,17 +86,10 @@ pub(crate) fn edit_area<C: Calculator>(
     force: bool,
 ) -> Result<(), Refusal>
     requires { IsSound C.marked (C.stored calculator.old) desk.old }
-    ensures step { let old = state_of (C.stored calculator.old) desk.old in
-        Serves (λ a. edit_answer old force
-        (record { named = area ∷ []; contents = contents.old }) ≡ a)
-        result old (state_of (C.stored calculator.new) desk.new) [] }
-    ensures adds { AddsOnly C.marked
-        (keys_of contents.old) (state_of (C.stored calculator.old) desk.old)
-        (state_of (C.stored calculator.new) desk.new) (pending_in desk.old) (pending_in desk.new) }
-    ensures refused { OnErr result (pending_in desk.new ≡ pending_in desk.old) }
+    ensures edit { let book = book_by C.stored C.evaluated C.restarted in
+        IsMade C.marked force (record { named = area ∷ []; contents = contents.old })
+        result (book calculator.old desk.old) (book calculator.new desk.new) }
     ensures sound { IsSound C.marked (C.stored calculator.new) desk.new }
-    ensures counts { (C.evaluated calculator.new ≡ C.evaluated calculator.old)
-        × (C.restarted calculator.new ≡ C.restarted calculator.old) }
 {
     apply_edit(alloc, calculator, desk, Named::one(area), contents, force)
 }

@@ -1,16 +1,14 @@
 //! The command `fill`: copies a cell's content to each cell of a rectangle.
 
-ghost use Rattle.std.specs.Prelude.{◌≡◌, ◌<◌, ◌++◌, ℕ, List, [], MatchResult, OnErr};
+ghost use Rattle.std.specs.Prelude.{◌<◌, ◌++◌, ℕ, List, MatchResult};
 ghost use Rattle.std.specs.Option.{option_copied};
 ghost use Rattle.wi_values.specs.Address.{rows, cells_of, cells_of_row};
-ghost use Rattle.wi_scenarios.specs.Answer.{Serves};
 ghost use Rattle.wi_scenarios.specs.Commands.Command as command;
 ghost use Rattle.wi_scenarios.specs.Commands.Operands.{cell, corners};
 ghost use Rattle.wi_scenarios.specs.Commands.Edits.{copied};
-ghost use Rattle.wi_scenarios.specs.Commands.Step.{IsStep};
-ghost use Rattle.wi_scenarios.specs.Pending.{AddsOnly};
+ghost use Rattle.wi_scenarios.specs.Inner.Calls.{IsEdit};
 ghost use Rattle.wi_scenarios.specs.Inner.Copies.{rows_between, columns_between, CopiesAs, AreCopies, HasNoCopies};
-ghost use Rattle.wi_scenarios.specs.Inner.Sound.{state_of, pending_in, IsSound};
+ghost use Rattle.wi_scenarios.specs.Inner.Sound.{book_by, IsSound};
 
 use crate::areas::{is_placed, is_spanned, is_too_large};
 use crate::desk::Desk;
@@ -32,15 +30,10 @@ pub(crate) fn fill<C: Calculator>(
     force: bool,
 ) -> Result<(), Refusal>
     requires { IsSound C.marked (C.stored calculator.old) desk.old }
-    ensures step { let old = state_of (C.stored calculator.old) desk.old in
-        Serves (IsStep old (command.Fill force (cell from) (corners area)))
-        result old (state_of (C.stored calculator.new) desk.new) [] }
-    ensures adds { AddsOnly C.marked (cells_of area) (state_of (C.stored calculator.old) desk.old)
-        (state_of (C.stored calculator.new) desk.new) (pending_in desk.old) (pending_in desk.new) }
-    ensures refused { OnErr result (pending_in desk.new ≡ pending_in desk.old) }
+    ensures edit { let book = book_by C.stored C.evaluated C.restarted in
+        IsEdit C.marked (cells_of area) (command.Fill force (cell from) (corners area))
+        result (book calculator.old desk.old) (book calculator.new desk.new) }
     ensures sound { IsSound C.marked (C.stored calculator.new) desk.new }
-    ensures counts { (C.evaluated calculator.new ≡ C.evaluated calculator.old)
-        × (C.restarted calculator.new ≡ C.restarted calculator.old) }
 {
     is_placed(from);
     is_spanned(area);

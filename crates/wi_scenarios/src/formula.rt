@@ -1,10 +1,9 @@
 //! The command `formula`: a cell's address, and its content as a text.
 
-ghost use Rattle.std.specs.Prelude.{◌≡◌, ◌++◌, ℕ, List};
-ghost use Rattle.wi_scenarios.specs.Answer.{Serves};
 ghost use Rattle.wi_scenarios.specs.Commands.Command as command;
 ghost use Rattle.wi_scenarios.specs.Commands.Operands.{cell};
 ghost use Rattle.wi_scenarios.specs.Commands.Step.{IsStep};
+ghost use Rattle.wi_scenarios.specs.Inner.Calls.{ServesInto};
 ghost use Rattle.wi_scenarios.specs.Inner.Sound.{state_of};
 ghost use Rattle.wi_scenarios.specs.declared.desk.Desk.{Desk};
 
@@ -23,8 +22,8 @@ pub(crate) fn formula<C: Calculator>(
     out: &mut Vec<u8>,
 ) -> Result<(), Refusal>
     ensures { (desk : Desk) → let state = state_of (C.stored calculator.now) desk in
-        (records : List ℕ) × (out.new.items ≡ out.old.items ++ records)
-        × Serves (IsStep state (command.Formula (cell at))) result state state records }
+        ServesInto (IsStep state (command.Formula (cell at))) result state state
+        out.old.items out.new.items }
 {
     is_placed(at);
     push_content(alloc, calculator, at, out)?;

@@ -4,8 +4,7 @@ ghost use Rattle.std.specs.Prelude.{◌≡◌, ◌≢◌, ◌∷◌, [], true, f
 ghost use Rattle.wi_scenario_list.specs.Scenarios.{has_scenario, scenario_for, with_scenario, with_own, without_own, is_full};
 ghost use Rattle.wi_scenarios.specs.Commands.Command as command;
 ghost use Rattle.wi_scenarios.specs.Commands.Operands.{cell};
-ghost use Rattle.wi_scenarios.specs.Commands.Step.{IsStep};
-ghost use Rattle.wi_scenarios.specs.Inner.Sound.{state_of, IsSound, ServesSound};
+ghost use Rattle.wi_scenarios.specs.Inner.Sound.{IsSound, ServesSound};
 
 use crate::areas::is_placed;
 use crate::desk::Desk;
@@ -28,9 +27,8 @@ pub(crate) fn put<C: Calculator>(
     content: &str,
 ) -> Result<(), Refusal>
     requires { IsSound C.marked (C.stored calculator.now) desk.old }
-    ensures { let old = state_of (C.stored calculator.now) desk.old in
-        ServesSound C.marked (IsStep old (command.Scenario name.now (cell at) content.now))
-        result (C.stored calculator.now) desk.old desk.new }
+    ensures { ServesSound C.marked (command.Scenario name.now (cell at) content.now) result
+        (C.stored calculator.now) desk.old desk.new }
 {
     if content.is_empty() {
         return take_away(alloc, calculator, desk, name, at);
@@ -49,9 +47,8 @@ fn put_text<C: Calculator>(
 ) -> Result<(), Refusal>
     requires sound { IsSound C.marked (C.stored calculator.now) desk.old }
     requires some { text.now ≢ [] }
-    ensures { let old = state_of (C.stored calculator.now) desk.old in
-        ServesSound C.marked (IsStep old (command.Scenario name.now (cell at) text.now))
-        result (C.stored calculator.now) desk.old desk.new }
+    ensures { ServesSound C.marked (command.Scenario name.now (cell at) text.now) result
+        (C.stored calculator.now) desk.old desk.new }
 {
     is_placed(at);
     if desk.scenarios.is_full(name, at) {
@@ -72,9 +69,8 @@ pub(crate) fn take_away<C: Calculator>(
     at: Address,
 ) -> Result<(), Refusal>
     requires { IsSound C.marked (C.stored calculator.now) desk.old }
-    ensures { let old = state_of (C.stored calculator.now) desk.old in
-        ServesSound C.marked (IsStep old (command.Scenario name.now (cell at) []))
-        result (C.stored calculator.now) desk.old desk.new }
+    ensures { ServesSound C.marked (command.Scenario name.now (cell at) []) result
+        (C.stored calculator.now) desk.old desk.new }
 {
     is_placed(at);
     if !desk.scenarios.contains(name) {

@@ -1,16 +1,13 @@
 //! The command `as`: makes a session current.
 
-ghost use Rattle.std.specs.Prelude.{◌≡◌, ◌≢◌, ◌<◌, ◌∷◌, ◌++◌, ℕ, List, [], true, false, length, Err, IfOk, OnOk, OnErr};
+ghost use Rattle.std.specs.Prelude.{◌≡◌, ◌<◌, ◌∷◌, ◌++◌, ℕ, List, [], length, IfOk, OnOk, OnErr};
 ghost use Rattle.wi_values.specs.Address.{is_one_of};
-ghost use Rattle.wi_sessions.specs.Sessions.{has_session, new_session, max_sessions};
+ghost use Rattle.wi_sessions.specs.Sessions.{new_session, max_sessions};
 ghost use Rattle.wi_sessions.specs.Roster.{SameCells};
-ghost use Rattle.wi_scenarios.specs.declared.refusal.Refusal.TheVariants.{Memory};
-ghost use Rattle.wi_scenarios.specs.Answer.{Serves};
-ghost use Rattle.wi_scenarios.specs.Commands.Command as command;
-ghost use Rattle.wi_scenarios.specs.Commands.Step.{IsStep};
 ghost use Rattle.wi_scenarios.specs.State.{state_over};
 ghost use Rattle.wi_scenarios.specs.Pending.{HasNewSession, occupied_cells};
-ghost use Rattle.wi_scenarios.specs.Inner.Sound.{state_of, pending_in, IsClosed, IsSound};
+ghost use Rattle.wi_scenarios.specs.Inner.Calls.{IsAs};
+ghost use Rattle.wi_scenarios.specs.Inner.Sound.{book_by, state_of, pending_in, IsClosed, IsSound};
 
 use crate::desk::Desk;
 use crate::refusal::Refusal;
@@ -30,18 +27,9 @@ pub(crate) fn session<C: Calculator>(
     name: &str,
 ) -> Result<(), Refusal>
     requires { IsSound C.marked (C.stored calculator.now) desk.old }
-    ensures step { let old = state_of (C.stored calculator.now) desk.old in
-        Serves (IsStep old (command.As name.now))
-        result old (state_of (C.stored calculator.now) desk.new) [] }
+    ensures current { let book = book_by C.stored C.evaluated C.restarted calculator.now in
+        IsAs name.now result (book desk.old) (book desk.new) }
     ensures sound { IsSound C.marked (C.stored calculator.now) desk.new }
-    ensures there { has_session desk.old.sessions.sessions name.now ≡ true
-        → pending_in desk.new ≡ pending_in desk.old }
-    ensures made { has_session desk.old.sessions.sessions name.now ≡ false
-        → OnOk result (HasNewSession (C.stored calculator.now).sheet
-        (pending_in desk.old) (pending_in desk.new)) }
-    ensures refused { OnErr result (pending_in desk.new ≡ pending_in desk.old) }
-    ensures no_memory { has_session desk.old.sessions.sessions name.now ≡ true
-        → result ≢ Err Memory }
 {
     if let Some(place) = desk.sessions.find(name) {
         desk.current = place;

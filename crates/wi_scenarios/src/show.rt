@@ -1,13 +1,11 @@
 //! The command `show`: the shown texts of a rectangle, a record for each row.
 
-ghost use Rattle.std.specs.Prelude.{◌≡◌, ◌++◌, ℕ, List};
-ghost use Rattle.wi_reports.specs.Looks.{Costs};
-ghost use Rattle.wi_scenarios.specs.Answer.{Serves};
+ghost use Rattle.std.specs.Prelude.{◌≡◌};
 ghost use Rattle.wi_scenarios.specs.Commands.Command as command;
 ghost use Rattle.wi_scenarios.specs.Commands.Operands.{corners};
-ghost use Rattle.wi_scenarios.specs.Commands.Step.{IsStep};
 ghost use Rattle.wi_scenarios.specs.Asked.{asked_by_show};
-ghost use Rattle.wi_scenarios.specs.Inner.Sound.{state_of, IsSound};
+ghost use Rattle.wi_scenarios.specs.Inner.Calls.{Looks};
+ghost use Rattle.wi_scenarios.specs.Inner.Sound.{book_by, state_of, IsSound};
 
 use crate::areas::{is_spanned, is_too_large};
 use crate::desk::Desk;
@@ -28,15 +26,12 @@ pub(crate) fn show<C: Calculator>(
     out: &mut Vec<u8>,
 ) -> Result<(), Refusal>
     requires { IsSound C.marked (C.stored calculator.old) desk.now }
-    ensures step { let old = state_of (C.stored calculator.old) desk.now in
-        (records : List ℕ) × (out.new.items ≡ out.old.items ++ records)
-        × Serves (IsStep old (command.Show (corners area)))
-        result old (state_of (C.stored calculator.new) desk.now) records }
+    ensures looks { let book = book_by C.stored C.evaluated C.restarted in
+        Looks (command.Show (corners area))
+        (asked_by_show (state_of (C.stored calculator.old) desk.now) area)
+        result (book calculator.old desk.now) (book calculator.new desk.now)
+        out.old.items out.new.items }
     ensures same { C.stored calculator.new ≡ C.stored calculator.old }
-    ensures cost { let old = state_of (C.stored calculator.old) desk.now in
-        Costs old.stored.sheet (asked_by_show old area)
-        (C.evaluated calculator.old, C.restarted calculator.old)
-        (C.evaluated calculator.new, C.restarted calculator.new) }
 {
     is_spanned(area);
     if is_too_large(area) {

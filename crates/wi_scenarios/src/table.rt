@@ -1,15 +1,13 @@
 //! The command `table`: the value of a formula cell for each cell of a column, or of a column and a row, in the place
 //! of inputs.
 
-ghost use Rattle.std.specs.Prelude.{◌≡◌, ◌++◌, ℕ, List};
-ghost use Rattle.wi_reports.specs.Looks.{Costs};
-ghost use Rattle.wi_scenarios.specs.Answer.{Serves};
+ghost use Rattle.std.specs.Prelude.{◌≡◌};
 ghost use Rattle.wi_scenarios.specs.Commands.Command as command;
 ghost use Rattle.wi_scenarios.specs.Commands.Operands.{cell, corners, second_input};
-ghost use Rattle.wi_scenarios.specs.Commands.Step.{IsStep};
 ghost use Rattle.wi_scenarios.specs.Asked.{asked_by_table};
+ghost use Rattle.wi_scenarios.specs.Inner.Calls.{Looks};
 ghost use Rattle.wi_scenarios.specs.Inner.Placed.{IsTablePlaced};
-ghost use Rattle.wi_scenarios.specs.Inner.Sound.{state_of, IsSound};
+ghost use Rattle.wi_scenarios.specs.Inner.Sound.{book_by, state_of, IsSound};
 
 use crate::areas::MAX_AREA;
 use crate::desk::Desk;
@@ -32,17 +30,15 @@ pub(crate) fn table<C: Calculator>(
     requires sound { IsSound C.marked (C.stored calculator.old) desk.now }
     requires placed { IsTablePlaced table.now.formula_cell table.now.input table.now.column
         table.now.second }
-    ensures step { let old = state_of (C.stored calculator.old) desk.now in
-        (records : List ℕ) × (out.new.items ≡ out.old.items ++ records)
-        × Serves (IsStep old (command.Table (cell table.now.formula_cell) (cell table.now.input)
-        (corners table.now.column) (second_input table.now.second)))
-        result old (state_of (C.stored calculator.new) desk.now) records }
+    ensures looks { let book = book_by C.stored C.evaluated C.restarted in
+        let asked = table.now in
+        Looks (command.Table (cell asked.formula_cell) (cell asked.input) (corners asked.column)
+        (second_input asked.second))
+        (asked_by_table (state_of (C.stored calculator.old) desk.now)
+        asked.formula_cell asked.input asked.column asked.second)
+        result (book calculator.old desk.now) (book calculator.new desk.now)
+        out.old.items out.new.items }
     ensures same { C.stored calculator.new ≡ C.stored calculator.old }
-    ensures cost { let old = state_of (C.stored calculator.old) desk.now in
-        Costs old.stored.sheet (asked_by_table old table.now.formula_cell table.now.input
-        table.now.column table.now.second)
-        (C.evaluated calculator.old, C.restarted calculator.old)
-        (C.evaluated calculator.new, C.restarted calculator.new) }
 {
     if !table.is_shaped() {
         return Err(Refusal::BadCommand);

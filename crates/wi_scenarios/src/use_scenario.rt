@@ -6,7 +6,6 @@ ghost use Rattle.wi_scenario_list.specs.Inner.Chains.{effective};
 ghost use Rattle.wi_sessions.specs.Sessions.{using_scenario};
 ghost use Rattle.wi_sessions.specs.Roster.{pending_of, vacant_of};
 ghost use Rattle.wi_scenarios.specs.Commands.Command as command;
-ghost use Rattle.wi_scenarios.specs.Commands.Step.{IsStep};
 ghost use Rattle.wi_scenarios.specs.Pending.{SameForOthers};
 ghost use Rattle.wi_scenarios.specs.Views.{current_session, current_replacements, with_current};
 ghost use Rattle.wi_scenarios.specs.Inner.Sound.{state_of, pending_in, IsSound, ServesSound, MakesSound};
@@ -28,9 +27,8 @@ pub(crate) fn use_scenario<C: Calculator>(
     name: Option<&str>,
 ) -> Result<(), Refusal>
     requires { IsSound C.marked (C.stored calculator.now) desk.old }
-    ensures served { let old = state_of (C.stored calculator.now) desk.old in
-        ServesSound C.marked (IsStep old (command.Use (option_copied name.entry)))
-        result (C.stored calculator.now) desk.old desk.new }
+    ensures served { ServesSound C.marked (command.Use (option_copied name.entry)) result
+        (C.stored calculator.now) desk.old desk.new }
     ensures others { SameForOthers desk.old.current (pending_in desk.old) (pending_in desk.new) }
 {
     if is_missing(&desk.scenarios, name) {

@@ -1,20 +1,17 @@
 //! A workbook.
 
-ghost use Rattle.std.specs.Prelude.{◌≡◌, ◌≢◌, ◌++◌, ◌∷◌, ℕ, List, [], true, false, is_ok, option_map, Err, IfOk, OnOk, OnErr};
+ghost use Rattle.std.specs.Prelude.{◌≡◌, ◌∷◌, ℕ, List, [], option_map, IfOk};
 ghost use Rattle.std.specs.Option.{option_copied};
 ghost use Rattle.wi_values.specs.Address.{cells_of};
 ghost use Rattle.wi_values.specs.Name.{bytes_of};
-ghost use Rattle.wi_sessions.specs.Sessions.{has_session};
 ghost use Rattle.wi_sessions.specs.Roster.{SameCells};
-ghost use Rattle.wi_reports.specs.Looks.{Costs};
-ghost use Rattle.wi_scenarios.specs.declared.refusal.Refusal.TheVariants.{Memory};
 ghost use Rattle.wi_scenarios.specs.State.{state_over};
-ghost use Rattle.wi_scenarios.specs.Answer.{Serves, ServesData};
 ghost use Rattle.wi_scenarios.specs.Commands.Command as command;
 ghost use Rattle.wi_scenarios.specs.Commands.Operands.{cell, corners, second_input};
-ghost use Rattle.wi_scenarios.specs.Commands.Step.{IsStep, IsImportStep};
-ghost use Rattle.wi_scenarios.specs.Asked.{asked_by_show, asked_by_changes, asked_by_compare, asked_by_table};
-ghost use Rattle.wi_scenarios.specs.Pending.{AddsOnly, SameForOthers, SameCounts, counts, Emptied, HasNewSession, pending_for, occupied_in, occupied_cells, imported_cells};
+ghost use Rattle.wi_scenarios.specs.Commands.Step.{IsStep};
+ghost use Rattle.wi_scenarios.specs.Asked.{asked_by_show, asked_by_compare, asked_by_table};
+ghost use Rattle.wi_scenarios.specs.Pending.{SameForOthers, occupied_in, occupied_cells};
+ghost use Rattle.wi_scenarios.specs.Inner.Calls.{IsEdit, IsImport, IsDrop, IsAs, ServesInto, Looks, IsChanges};
 
 use crate::areas::is_table_placed;
 use crate::base::base;
@@ -116,12 +113,8 @@ impl<C: Calculator> Workbook<C> {
     /// something new, or a cycle may be closed or opened. The memory for a session grows with the cells that aren't
     /// pending for it.
     pub fn set(&mut self, at: Address, content: &str, force: bool) -> Result<(), Refusal>
-        ensures step { Serves (IsStep self.old.state (command.Set force (cell at) content.now))
-            result self.old.state self.new.state [] }
-        ensures adds { AddsOnly C.marked (at ∷ [])
-            self.old.state self.new.state self.old.pending self.new.pending }
-        ensures refused { OnErr result (self.new.pending ≡ self.old.pending) }
-        ensures counts { SameCounts self.old self.new }
+        ensures { IsEdit C.marked (at ∷ []) (command.Set force (cell at) content.now)
+            result self.old self.new }
     {
         set(
             self.alloc,
@@ -136,13 +129,8 @@ impl<C: Calculator> Workbook<C> {
     /// Empties the cells of a rectangle of any size. `force` is as of `set`. The work grows with its occupied cells;
     /// for each a search passes cells that stand beside it, in no more rows than the rectangle has columns.
     pub fn clear(&mut self, area: Rect, force: bool) -> Result<(), Refusal>
-        ensures step { Serves (IsStep self.old.state (command.Clear force (corners area)))
-            result self.old.state self.new.state [] }
-        ensures adds { AddsOnly C.marked
-            (occupied_in self.old.state.stored.sheet area)
-            self.old.state self.new.state self.old.pending self.new.pending }
-        ensures refused { OnErr result (self.new.pending ≡ self.old.pending) }
-        ensures counts { SameCounts self.old self.new }
+        ensures { IsEdit C.marked (occupied_in self.old.state.stored.sheet area)
+            (command.Clear force (corners area)) result self.old self.new }
     {
         clear(
             self.alloc,
@@ -157,13 +145,8 @@ impl<C: Calculator> Workbook<C> {
     /// formula's references move by the distance; where one would leave the sheet, the whole command is refused. From
     /// an empty cell the rectangle is emptied. `force` is as of `set`. The work grows with the cells of the rectangle.
     pub fn fill(&mut self, from: Address, area: Rect, force: bool) -> Result<(), Refusal>
-        ensures step { Serves
-            (IsStep self.old.state (command.Fill force (cell from) (corners area)))
-            result self.old.state self.new.state [] }
-        ensures adds { AddsOnly C.marked (cells_of area)
-            self.old.state self.new.state self.old.pending self.new.pending }
-        ensures refused { OnErr result (self.new.pending ≡ self.old.pending) }
-        ensures counts { SameCounts self.old self.new }
+        ensures { IsEdit C.marked (cells_of area) (command.Fill force (cell from) (corners area))
+            result self.old self.new }
     {
         fill(
             self.alloc,
@@ -179,12 +162,7 @@ impl<C: Calculator> Workbook<C> {
     /// and j - 1 right of the cell. An empty field empties its cell; cells without a field stay. It is one edit, done
     /// whole or not at all. `force` is as of `set`. The work grows with the text.
     pub fn import(&mut self, at: Address, text: &[u8], force: bool) -> Result<(), Refusal>
-        ensures step { ServesData (IsImportStep self.old.state force at text.now)
-            result self.old.state self.new.state }
-        ensures adds { AddsOnly C.marked (imported_cells at text.now)
-            self.old.state self.new.state self.old.pending self.new.pending }
-        ensures refused { OnErr result (self.new.pending ≡ self.old.pending) }
-        ensures counts { SameCounts self.old self.new }
+        ensures { IsImport C.marked force at text.now result self.old self.new }
     {
         import(
             self.alloc,
@@ -206,13 +184,9 @@ impl<C: Calculator> Workbook<C> {
         at: Address,
         content: &str,
     ) -> Result<(), Refusal>
-        ensures step { Serves
-            (IsStep self.old.state (command.Scenario (bytes_of name.entry) (cell at) content.now))
-            result self.old.state self.new.state [] }
-        ensures adds { AddsOnly C.marked ([])
-            self.old.state self.new.state self.old.pending self.new.pending }
-        ensures refused { OnErr result (self.new.pending ≡ self.old.pending) }
-        ensures counts { SameCounts self.old self.new }
+        ensures { IsEdit C.marked []
+            (command.Scenario (bytes_of name.entry) (cell at) content.now)
+            result self.old self.new }
     {
         put(
             self.alloc,
@@ -228,13 +202,8 @@ impl<C: Calculator> Workbook<C> {
     /// the work grows with the count of scenarios, the scenario's own replacements, all that the sessions' scenarios
     /// put in, and what depends on the cell.
     pub fn scenario_clear(&mut self, name: Name<'_>, at: Address) -> Result<(), Refusal>
-        ensures step { Serves (IsStep self.old.state (command.Scenario (bytes_of name.entry)
-            (cell at) []))
-            result self.old.state self.new.state [] }
-        ensures adds { AddsOnly C.marked ([])
-            self.old.state self.new.state self.old.pending self.new.pending }
-        ensures refused { OnErr result (self.new.pending ≡ self.old.pending) }
-        ensures counts { SameCounts self.old self.new }
+        ensures { IsEdit C.marked [] (command.Scenario (bytes_of name.entry) (cell at) [])
+            result self.old self.new }
     {
         take_away(
             self.alloc,
@@ -249,12 +218,9 @@ impl<C: Calculator> Workbook<C> {
     /// what `scenario_set` does: the work grows with the count of scenarios, the scenario's own replacements, all that
     /// the sessions' scenarios put in, and what depends on the cells whose replacement changes.
     pub fn scenario_base(&mut self, name: Name<'_>, other: Option<Name<'_>>) -> Result<(), Refusal>
-        ensures step { Serves (IsStep self.old.state (command.Base (bytes_of name.entry)
-            (option_map bytes_of other.entry))) result self.old.state self.new.state [] }
-        ensures adds { AddsOnly C.marked ([])
-            self.old.state self.new.state self.old.pending self.new.pending }
-        ensures refused { OnErr result (self.new.pending ≡ self.old.pending) }
-        ensures counts { SameCounts self.old self.new }
+        ensures { IsEdit C.marked []
+            (command.Base (bytes_of name.entry) (option_map bytes_of other.entry))
+            result self.old self.new }
     {
         base(
             self.alloc,
@@ -268,11 +234,7 @@ impl<C: Calculator> Workbook<C> {
     /// Removes a scenario that no session uses, and on which none is based. Takes no memory. The work grows with the
     /// counts of scenarios and sessions.
     pub fn scenario_drop(&mut self, name: Name<'_>) -> Result<(), Refusal>
-        ensures step { Serves (IsStep self.old.state (command.Drop (bytes_of name.entry)))
-            result self.old.state self.new.state [] }
-        ensures pending { self.new.pending ≡ self.old.pending }
-        ensures counts { SameCounts self.old self.new }
-        ensures no_memory { result ≢ Err Memory }
+        ensures { IsDrop (bytes_of name.entry) result self.old self.new }
     {
         drop(&self.calculator, &mut self.desk, name.as_str())
     }
@@ -280,14 +242,9 @@ impl<C: Calculator> Workbook<C> {
     /// The current session uses a scenario, or the sheet as it stands. The work grows with all that the old and the new
     /// scenario put in, and with what depends on the cells whose replacement changes.
     pub fn use_scenario(&mut self, name: Option<Name<'_>>) -> Result<(), Refusal>
-        ensures step { Serves
-            (IsStep self.old.state (command.Use (option_map bytes_of name.entry)))
-            result self.old.state self.new.state [] }
-        ensures adds { AddsOnly C.marked ([])
-            self.old.state self.new.state self.old.pending self.new.pending }
+        ensures edit { IsEdit C.marked [] (command.Use (option_map bytes_of name.entry))
+            result self.old self.new }
         ensures others { SameForOthers self.old.state.current self.old.pending self.new.pending }
-        ensures refused { OnErr result (self.new.pending ≡ self.old.pending) }
-        ensures counts { SameCounts self.old self.new }
     {
         use_scenario(self.alloc, &self.calculator, &mut self.desk, as_text(name))
     }
@@ -295,17 +252,7 @@ impl<C: Calculator> Workbook<C> {
     /// Makes a session current, a new one if need be, which uses the sheet as it stands and was shown nothing. Takes no
     /// memory where the session is there; for a new one the work grows with the occupied cells.
     pub fn session(&mut self, name: Name<'_>) -> Result<(), Refusal>
-        ensures step { Serves (IsStep self.old.state (command.As (bytes_of name.entry)))
-            result self.old.state self.new.state [] }
-        ensures there { has_session self.old.state.sessions (bytes_of name.entry) ≡ true
-            → self.new.pending ≡ self.old.pending }
-        ensures made { has_session self.old.state.sessions (bytes_of name.entry) ≡ false
-            → OnOk result
-            (HasNewSession self.old.state.stored.sheet self.old.pending self.new.pending) }
-        ensures refused { OnErr result (self.new.pending ≡ self.old.pending) }
-        ensures counts { SameCounts self.old self.new }
-        ensures no_memory { has_session self.old.state.sessions (bytes_of name.entry) ≡ true
-            → result ≢ Err Memory }
+        ensures { IsAs (bytes_of name.entry) result self.old self.new }
     {
         session(self.alloc, &self.calculator, &mut self.desk, name.as_str())
     }
@@ -314,13 +261,8 @@ impl<C: Calculator> Workbook<C> {
     /// asked once for each cell; beside that the work grows with what the session's scenario puts in and with the
     /// length of the records.
     pub fn show(&mut self, area: Rect, out: &mut Vec<u8>) -> Result<(), Refusal>
-        ensures step { (records : List ℕ) × (out.new.items ≡ out.old.items ++ records)
-            × Serves (IsStep self.old.state (command.Show (corners area)))
-            result self.old.state self.new.state records }
-        ensures pending { self.new.pending ≡ self.old.pending }
-        ensures cost { let old = self.old.state in
-            Costs old.stored.sheet (asked_by_show old area)
-            (counts self.old) (counts self.new) }
+        ensures { Looks (command.Show (corners area)) (asked_by_show self.old.state area)
+            result self.old self.new out.old.items out.new.items }
     {
         show(self.alloc, &mut self.calculator, &self.desk, area, out)
     }
@@ -328,13 +270,8 @@ impl<C: Calculator> Workbook<C> {
     /// Appends the records of `show`, after a line that tells how many lines they are: `lines`, a space and the count
     /// of their LF bytes. It costs what `show` does, and is linear in the length of the records beside.
     pub fn export(&mut self, area: Rect, out: &mut Vec<u8>) -> Result<(), Refusal>
-        ensures step { (records : List ℕ) × (out.new.items ≡ out.old.items ++ records)
-            × Serves (IsStep self.old.state (command.Export (corners area)))
-            result self.old.state self.new.state records }
-        ensures pending { self.new.pending ≡ self.old.pending }
-        ensures cost { let old = self.old.state in
-            Costs old.stored.sheet (asked_by_show old area)
-            (counts self.old) (counts self.new) }
+        ensures { Looks (command.Export (corners area)) (asked_by_show self.old.state area)
+            result self.old self.new out.old.items out.new.items }
     {
         export(self.alloc, &mut self.calculator, &self.desk, area, out)
     }
@@ -345,19 +282,7 @@ impl<C: Calculator> Workbook<C> {
     /// session's scenario puts in, with the length of the records, and with the changes, some look-ups in the session's
     /// snapshot for each.
     pub fn changes(&mut self, out: &mut Vec<u8>) -> Result<(), Refusal>
-        ensures step { (records : List ℕ) × (out.new.items ≡ out.old.items ++ records)
-            × Serves (IsStep self.old.state command.Changes)
-            result self.old.state self.new.state records }
-        ensures emptied { OnOk result
-            (Emptied self.old.state.current self.old.pending self.new.pending) }
-        ensures refused { OnErr result (self.new.pending ≡ self.old.pending) }
-        ensures quiet { pending_for self.old.pending self.old.state.current ≡ []
-            → SameCounts self.old self.new × (out.new.items ≡ out.old.items) }
-        ensures quiet_ok { pending_for self.old.pending self.old.state.current ≡ []
-            → is_ok result ≡ true }
-        ensures cost { let old = self.old.state in
-            Costs old.stored.sheet (asked_by_changes old self.old.pending)
-            (counts self.old) (counts self.new) }
+        ensures { IsChanges result self.old self.new out.old.items out.new.items }
     {
         changes(self.alloc, &mut self.calculator, &mut self.desk, out)
     }
@@ -373,15 +298,11 @@ impl<C: Calculator> Workbook<C> {
         area: Rect,
         out: &mut Vec<u8>,
     ) -> Result<(), Refusal>
-        ensures step { (records : List ℕ) × (out.new.items ≡ out.old.items ++ records)
-            × Serves (IsStep self.old.state (command.Compare (option_map bytes_of first.entry)
-            (option_map bytes_of second.entry) (corners area)))
-            result self.old.state self.new.state records }
-        ensures pending { self.new.pending ≡ self.old.pending }
-        ensures cost { let old = self.old.state in
-            Costs old.stored.sheet (asked_by_compare old (option_map bytes_of first.entry)
-            (option_map bytes_of second.entry) area)
-            (counts self.old) (counts self.new) }
+        ensures { let one = option_map bytes_of first.entry in
+            let other = option_map bytes_of second.entry in
+            Looks (command.Compare one other (corners area))
+            (asked_by_compare self.old.state one other area)
+            result self.old self.new out.old.items out.new.items }
     {
         let compared = Compared {
             first: as_text(first),
@@ -410,14 +331,10 @@ impl<C: Calculator> Workbook<C> {
         second: Option<(Address, Rect)>,
         out: &mut Vec<u8>,
     ) -> Result<(), Refusal>
-        ensures step { (records : List ℕ) × (out.new.items ≡ out.old.items ++ records)
-            × Serves (IsStep self.old.state (command.Table (cell formula_cell) (cell input)
-            (corners column) (second_input second)))
-            result self.old.state self.new.state records }
-        ensures pending { self.new.pending ≡ self.old.pending }
-        ensures cost { let old = self.old.state in
-            Costs old.stored.sheet (asked_by_table old formula_cell input column second)
-            (counts self.old) (counts self.new) }
+        ensures { Looks (command.Table (cell formula_cell) (cell input) (corners column)
+            (second_input second))
+            (asked_by_table self.old.state formula_cell input column second)
+            result self.old self.new out.old.items out.new.items }
     {
         is_table_placed(formula_cell, input, column, &second);
         let asked = DataTable {
@@ -441,9 +358,8 @@ impl<C: Calculator> Workbook<C> {
     /// another constant as shown, and empty where there is none. One look-up in the sheet; beside that the work grows
     /// with the length of the record.
     pub fn formula_text(&self, at: Address, out: &mut Vec<u8>) -> Result<(), Refusal>
-        ensures { (records : List ℕ) × (out.new.items ≡ out.old.items ++ records)
-            × Serves (IsStep self.now.state (command.Formula (cell at)))
-            result self.now.state self.now.state records }
+        ensures { ServesInto (IsStep self.now.state (command.Formula (cell at))) result
+            self.now.state self.now.state out.old.items out.new.items }
     {
         formula(self.alloc, &self.calculator, at, out)
     }

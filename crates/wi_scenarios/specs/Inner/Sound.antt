@@ -7,9 +7,10 @@ use Rattle.wi_sessions.specs.Pictures.{value_in, sheet_size}
 use Rattle.wi_sessions.specs.Roster.{vacant_of}
 use Rattle.wi_sessions.specs.Sessions.{max_sessions}
 use Rattle.wi_scenarios.specs.State.{State}
-use Rattle.wi_scenarios.specs.Answer.{Answer, Serves}
 use Rattle.wi_scenarios.specs.Views.{session_at, shown_to}
 use Rattle.wi_scenarios.specs.Pending.{Book, AddsOnly, is_pending}
+use Rattle.wi_scenarios.specs.Commands.Command.{Command}
+use Rattle.wi_scenarios.specs.Inner.Calls.{IsEdit}
 use Rattle.wi_scenarios.specs.declared.desk.Desk.{Desk}
 use Rattle.wi_scenarios.specs.declared.refusal.Refusal.{Refusal}
 
@@ -24,6 +25,10 @@ pending_in d = d.sessions.pending
 abbrev pub book_of : Stored → ℕ → ℕ → Desk → Book
 book_of stored evaluated restarted d =
     record { state = state_of stored d; pending = pending_in d; evaluated = evaluated; restarted = restarted }
+
+-- the same, by what a calculator tells
+abbrev pub book_by : {C : Type 0} → (C → Stored) → (C → ℕ) → (C → ℕ) → C → Desk → Book
+book_by stored evaluated restarted c d = book_of (stored c) (evaluated c) (restarted c) d
 
 -- of each cell that isn't pending for it, the i-th session's picture has the value that it is shown
 abbrev pub IsUpToDate : State → List (List ℕ) → ℕ → Type 0
@@ -50,12 +55,10 @@ pub record IsSound (marked : Sheet → List ℕ → ℕ → Bool) (stored : Stor
   pub closed : AreClosed marked (state_of stored d) (pending_in d)
   pub covered : AreCovered (state_of stored d) (pending_in d)
 
--- What a command about scenarios leaves, by its answers: it edits no cell, so that what became pending is marked for
--- replacements alone; where it refused, what is pending is as it was.
-pub record ServesSound (marked : Sheet → List ℕ → ℕ → Bool) (IsAnswer : Answer → Type 0) (result : Result (Unit {0}) Refusal) (stored : Stored) (old new : Desk) : Type 0 where
-  pub step : Serves IsAnswer result (state_of stored old) (state_of stored new) []
-  pub adds : AddsOnly marked [] (state_of stored old) (state_of stored new) (pending_in old) (pending_in new)
-  pub refused : OnErr result (pending_in new ≡ pending_in old)
+-- What a command about scenarios leaves: it edits no cell, and whatever the calculator counted before, it counts
+-- nothing more.
+pub record ServesSound (marked : Sheet → List ℕ → ℕ → Bool) (c : Command) (result : Result (Unit {0}) Refusal) (stored : Stored) (old new : Desk) : Type 0 where
+  pub edit : (evaluated restarted : ℕ) → IsEdit marked [] c result (book_of stored evaluated restarted old) (book_of stored evaluated restarted new)
   pub sound : IsSound marked stored new
 
 -- what a call leaves that makes another state of a desk, or runs out of memory

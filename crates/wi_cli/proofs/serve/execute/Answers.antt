@@ -20,7 +20,7 @@ pub returns-in-Base : goal.returns-in-Base
 returns-in-Base g c = served_alone _ _ _ _ _ _ c.in-Base.is c.scenario_base.ensures.step tt
 
 pub returns-in-Use : goal.returns-in-Use
-returns-in-Use g c = served_alone _ _ _ _ _ _ c.in-Use.is c.use_scenario.ensures.step tt
+returns-in-Use g c = served_alone _ _ _ _ _ _ c.in-Use.is c.use_scenario.ensures.edit.step tt
 
 pub returns-in-As : goal.returns-in-As
 returns-in-As g c = served_alone _ _ _ _ _ _ c.in-As.is c.session.ensures.step c.session.ensures.no_memory

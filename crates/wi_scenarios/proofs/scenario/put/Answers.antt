@@ -1,6 +1,5 @@
-use Rattle.wi_scenarios.proofs.Words.{◌≡◌, List, ℕ, length, sym, ap, subst, arith, common_steps, nil_from_length, state_of}
-use Rattle.wi_scenarios.specs.Inner.Sound.{ServesSound}
-use Rattle.wi_scenarios.proofs.CommandWords.{Scenario, cell, IsStep}
+use Rattle.wi_scenarios.proofs.Words.{◌≡◌, List, ℕ, length, sym, ap, subst, arith, common_steps, nil_from_length, ServesSound}
+use Rattle.wi_scenarios.proofs.CommandWords.{Scenario, cell}
 use Rattle.wi_scenarios.proofs.scenario.put.Goals as goal
 
 pub put_text-requires-clause-some : goal.put_text-requires-clause-some
@@ -8,9 +7,9 @@ put_text-requires-clause-some g c = λ e. let some : length c.args.content.now �
 
 pub returns-then-is_empty : goal.returns-then-is_empty
 returns-then-is_empty g c =
-    let s = state_of (g.C.Calculator.stored c.args.calculator.now) c.args.desk.now in
+    let stored = g.C.Calculator.stored c.args.calculator.now in
     let none : length c.args.content.now ≡ 0 = grind (arith, common_steps) in
-    subst (λ (text : List ℕ). ServesSound g.C.Calculator.marked (IsStep s (Scenario c.args.name.now (cell c.args.at) text)) c.take_away.result (g.C.Calculator.stored c.args.calculator.now) c.args.desk.now c.take_away.new.desk)
+    subst (λ (text : List ℕ). ServesSound g.C.Calculator.marked (Scenario c.args.name.now (cell c.args.at) text) c.take_away.result stored c.args.desk.now c.take_away.new.desk)
     (sym (nil_from_length c.args.content.now none)) c.take_away.ensures
 
 pub returns : goal.returns

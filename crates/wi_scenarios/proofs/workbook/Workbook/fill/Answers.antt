@@ -1,9 +1,8 @@
-use Rattle.wi_scenarios.proofs.Words.{◌≡◌, subst, Book}
+use Rattle.wi_scenarios.proofs.Words.{cells_of, subst, Book, IsEdit, book_by}
+use Rattle.wi_scenarios.proofs.CommandWords.{Fill, cell, corners}
 use Rattle.wi_scenarios.proofs.workbook.Workbook.fill.Goals as goal
 
-pub returns-clause-counts : goal.returns-clause-counts
-returns-clause-counts g c =
-    let evaluated = g.C.Calculator.evaluated in
-    let restarted = g.C.Calculator.restarted in
-    let new = c.fill.new.calculator in
-    subst (λ (b : Book). (evaluated new ≡ b.evaluated) × (restarted new ≡ b.restarted)) c.self.view_is c.fill.ensures.counts
+pub returns : goal.returns
+returns g c =
+    let book = book_by g.C.Calculator.stored g.C.Calculator.evaluated g.C.Calculator.restarted in
+    subst (λ (b : Book). IsEdit g.C.Calculator.marked (cells_of c.args.area) (Fill c.args.force (cell c.args.from) (corners c.args.area)) c.fill.result b (book c.fill.new.calculator c.fill.new.desk)) c.self.view_is c.fill.ensures.edit

@@ -1,15 +1,9 @@
-use Rattle.wi_scenarios.proofs.Words.{[], List, ℕ, ap, subst, Book, Serves, state_of}
-use Rattle.wi_values.specs.Name.{bytes_of}
-use Rattle.wi_scenarios.proofs.CommandWords.{Scenario, cell, IsStep}
+use Rattle.wi_scenarios.proofs.Words.{List, ℕ, [], Book, IsEdit, book_by}
+use Rattle.wi_scenarios.proofs.CommandWords.{Scenario, cell}
+use Rattle.wi_scenarios.proofs.CallLemmas.{seen}
 use Rattle.wi_scenarios.proofs.workbook.Workbook.scenario_set.Goals as goal
 
-pub returns-clause-step : goal.returns-clause-step
-returns-clause-step g c =
-    let stored = g.C.Calculator.stored c.self.inside.calculator in
-    let s = state_of stored c.self.inside.desk in
-    let t = state_of stored c.put.new.desk in
-    subst (λ (b : Book). Serves (IsStep b.state (Scenario (bytes_of c.args.name) (cell c.args.at) c.args.content.now)) c.put.result b.state t []) c.self.view_is
-    (subst (λ (n : List ℕ). Serves (IsStep s (Scenario n (cell c.args.at) c.args.content.now)) c.put.result s t []) c.as_str.ensures c.put.ensures.step)
-
-pub returns-clause-counts : goal.returns-clause-counts
-returns-clause-counts g c = (ap (λ (b : Book). b.evaluated) c.self.view_is, ap (λ (b : Book). b.restarted) c.self.view_is)
+pub returns : goal.returns
+returns g c =
+    let book = book_by g.C.Calculator.stored g.C.Calculator.evaluated g.C.Calculator.restarted in
+    seen (λ (name : List ℕ) (b : Book). IsEdit g.C.Calculator.marked [] (Scenario name (cell c.args.at) c.args.content.now) c.put.result b (book c.self.inside.calculator c.put.new.desk)) c.as_str.ensures c.self.view_is (c.put.ensures.edit (g.C.Calculator.evaluated c.self.inside.calculator) (g.C.Calculator.restarted c.self.inside.calculator))

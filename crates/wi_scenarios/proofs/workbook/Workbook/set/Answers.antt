@@ -1,10 +1,9 @@
-use Rattle.wi_scenarios.proofs.Words.{◌≡◌, subst, Book}
+use Rattle.wi_scenarios.proofs.Words.{[], ◌∷◌, subst, Book, IsEdit, book_by}
+use Rattle.wi_scenarios.proofs.CommandWords.{Set, cell}
 use Rattle.wi_scenarios.proofs.workbook.Workbook.set.Goals as goal
 
-pub returns-clause-counts : goal.returns-clause-counts
-returns-clause-counts g c =
-    let evaluated = g.C.Calculator.evaluated in
-    let restarted = g.C.Calculator.restarted in
-    let new = c.set.new.calculator in
-    let same = c.set.ensures.counts in
-    subst (λ (b : Book). (evaluated new ≡ b.evaluated) × (restarted new ≡ b.restarted)) c.self.view_is (search (same))
+pub returns : goal.returns
+returns g c =
+    let made = c.set.ensures.edit in
+    let book = book_by g.C.Calculator.stored g.C.Calculator.evaluated g.C.Calculator.restarted in
+    subst (λ (b : Book). IsEdit g.C.Calculator.marked (c.args.at ∷ []) (Set c.args.force (cell c.args.at) c.args.content.now) c.set.result b (book c.set.new.calculator c.set.new.desk)) c.self.view_is (search (made))
