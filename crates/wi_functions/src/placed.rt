@@ -1,6 +1,6 @@
 //! A formula whose references are places in a list of values.
 
-ghost use Rattle.std.specs.Prelude.{◌≡◌, List, map, IfOk, IfSome, IfNone, OnErr};
+ghost use Rattle.std.specs.Prelude.{◌≡◌, ◌<◌, ◌++◌, ◌∷◌, [], List, map, vec_len, vec_capacity, IfOk, IfSome, IfNone, OnOk, OnErr};
 ghost use Rattle.wi_values.specs.declared.value.Value.{Value as Values};
 ghost use Rattle.wi_standard_functions.specs.Arguments.{Argument, value_or};
 ghost use Rattle.wi_standard_functions.specs.Functions.{call_value};
@@ -15,10 +15,13 @@ ghost use Rattle.wi_functions.specs.Placed.{placed_value, placed_values, value_a
 use crate::choice::{Choice, choose};
 use crate::evaluation::zero_for_empty;
 use crate::meter::Meter;
+use crate::number::take_number;
 use crate::operators::{hundredth, operate, with_sign};
 use std::alloc::{AllocError, Global};
 use wi_parser::{Operator, Sign};
-use wi_value_functions::{Function, LazyFunction, ValueFunction, function_for, value_of_values};
+use wi_value_functions::{
+    Function, LazyFunction, ValueFunction, function_for, value_of_values, zero,
+};
 use wi_values::{Text, Value};
 
 /// A formula's tree in which each reference to a cell is a place in a list of values, or the value itself, and each
@@ -50,9 +53,59 @@ pub fn evaluate_placed(
         ≡ record meter.old { evaluations = one_more meter.old.evaluations }) }
     ensures err { OnErr result (meter.new ≡ meter.old) }
 {
+    let mut number = zero();
+    if take_number(placed, values, &mut number) {
+        meter.count_evaluation();
+        return Ok(Value::Number(number));
+    }
+    evaluate_any(alloc, placed, values, meter)
+}
+
+/// As `evaluate_placed`, with a value for each part.
+#[inline(never)]
+fn evaluate_any(
+    alloc: Global,
+    placed: &Placed,
+    values: &[Value],
+    meter: &mut Meter,
+) -> Result<Value, AllocError>
+    ensures value { IfOk result
+        (λ v. v ≡ formulas.zero_for_empty (placed_value placed.now values.now)) }
+    ensures counted { IfOk result (λ _. meter.new
+        ≡ record meter.old { evaluations = one_more meter.old.evaluations }) }
+    ensures err { OnErr result (meter.new ≡ meter.old) }
+{
     let value = value_of_placed(alloc, placed, values)?;
     meter.count_evaluation();
     Ok(zero_for_empty(value))
+}
+
+/// Appends the value of a placed formula, as `evaluate_placed` gives it, to those that it stands over. A number is
+/// reckoned in place.
+#[inline(always)]
+pub fn push_evaluated(
+    alloc: Global,
+    placed: &Placed,
+    values: &mut Vec<Value>,
+    meter: &mut Meter,
+) -> Result<(), AllocError>
+    requires { vec_len values.old < vec_capacity values.old }
+    ensures value { OnOk result (values.new.items ≡ values.old.items
+        ++ formulas.zero_for_empty (placed_value placed.now values.old.items) ∷ []) }
+    ensures capacity { vec_capacity values.new ≡ vec_capacity values.old }
+    ensures counted { OnOk result (meter.new
+        ≡ record meter.old { evaluations = one_more meter.old.evaluations }) }
+    ensures err { OnErr result (meter.new ≡ meter.old) }
+{
+    let mut number = zero();
+    if take_number(placed, values, &mut number) {
+        meter.count_evaluation();
+        values.push_reserved(Value::Number(number));
+        return Ok(());
+    }
+    let value = evaluate_any(alloc, placed, values, meter)?;
+    values.push_reserved(value);
+    Ok(())
 }
 
 /// The value of a placed expression. What each kind needs of the stack stands in a function of its own.
@@ -224,7 +277,8 @@ fn at_place(values: &[Value], place: usize) -> Option<&Value>
 }
 
 /// The value of a placed expression that is a constant or a place, so that an operator takes it as it is lent.
-fn lent<'a>(placed: &'a Placed, values: &'a [Value]) -> Option<&'a Value>
+#[inline(always)]
+pub(crate) fn lent<'a>(placed: &'a Placed, values: &'a [Value]) -> Option<&'a Value>
     ensures { IfSome result (λ v. v.now ≡ placed_value placed.now values.now) }
 {
     match placed {

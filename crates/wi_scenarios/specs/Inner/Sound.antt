@@ -26,7 +26,7 @@ abbrev pub book_of : Stored → ℕ → ℕ → Desk → Book
 book_of stored evaluated restarted d =
     record { state = state_of stored d; pending = pending_in d; evaluated = evaluated; restarted = restarted }
 
--- the same, by what a calculator tells
+-- `book_of` what a calculator tells
 abbrev pub book_by : {C : Type 0} → (C → Stored) → (C → ℕ) → (C → ℕ) → C → Desk → Book
 book_by stored evaluated restarted c d = book_of (stored c) (evaluated c) (restarted c) d
 
