@@ -10,7 +10,7 @@ use crate::item::Item;
 use wi_values::{ErrorKind, Value};
 
 /// What is made of the items of a sequence, one after another.
-pub(crate) trait Fold: Copy {
+pub(crate) trait Fold: Drop {
     ghost use Rattle.wi_values.specs.declared.value.Value.TheVariants.{Empty};
 
     /// What is made with one more item, or the error that it is or gives.

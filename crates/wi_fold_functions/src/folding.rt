@@ -40,7 +40,7 @@ pub(crate) fn fold_arguments<L: Lookup, F: Fold>(
 }
 
 /// What is made of the items so far, or the first error met.
-#[derive(Clone, Copy)]
+#[derive(Drop)]
 struct Folding<F> {
     so_far: Result<F, ErrorKind>,
 }
@@ -67,7 +67,7 @@ impl<F: Fold> Folding<F> {
     }
 
     /// Takes one more item, and tells whether another could make a difference: an error that was met stays.
-    #[inline]
+    #[inline(always)]
     fn take_item(&mut self, item: Item<'_>) -> ControlFlow<()>
         ensures taken { self.new.so_far ≡ go_on F.step self.old.so_far (item_of item.entry) }
         ensures broken { is_some (break_value result) ≡ true → is_err self.new.so_far ≡ true }
@@ -79,6 +79,7 @@ impl<F: Fold> Folding<F> {
         ControlFlow::Continue(())
     }
 
+    #[inline(always)]
     fn step(&mut self, item: Item<'_>) -> Result<(), ErrorKind>
         ensures ok { OnOk result
             (self.new.so_far ≡ go_on F.step self.old.so_far (item_of item.entry)) }

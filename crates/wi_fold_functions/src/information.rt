@@ -31,7 +31,7 @@ pub(crate) fn count_a_value<L: Lookup>(arguments: &[Argument], lookup: &L) -> Re
 }
 
 /// How many Numbers there are so far.
-#[derive(Clone, Copy)]
+#[derive(Drop)]
 struct NumberCount {
     numbers: u128,
 }
@@ -54,7 +54,7 @@ impl Fold for NumberCount {
 }
 
 /// How many items there are so far that aren't Empty.
-#[derive(Clone, Copy)]
+#[derive(Drop)]
 struct FilledCount {
     filled: u128,
 }

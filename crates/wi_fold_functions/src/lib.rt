@@ -1,6 +1,7 @@
 //! The functions of OpenFormula that fold a sequence of items: the cells of references, and values.
 #![tactic(auto)]
 
+mod adding;
 mod fold;
 mod folding;
 mod information;

@@ -30,7 +30,7 @@ pub(crate) fn or_value<L: Lookup>(arguments: &[Argument], lookup: &L) -> Result<
 }
 
 /// Whether all truth values so far are TRUE, where there is one.
-#[derive(Clone, Copy)]
+#[derive(Drop)]
 struct AllTrue {
     all: Option<bool>,
 }
@@ -57,7 +57,7 @@ impl Fold for AllTrue {
 }
 
 /// Whether one of the truth values so far is TRUE, where there is one.
-#[derive(Clone, Copy)]
+#[derive(Drop)]
 struct AnyTrue {
     any: Option<bool>,
 }

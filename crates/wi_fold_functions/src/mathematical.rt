@@ -6,12 +6,13 @@ ghost use Rattle.wi_arguments.specs.Arguments.{IsMissing, IsOfArguments};
 ghost use Rattle.wi_fold_functions.specs.Inner.Made.{sum_with, product_with};
 ghost use Rattle.wi_standard_functions.specs.Inner.Named.{sum_value, product_value};
 
+use crate::adding::add_item;
 use crate::fold::Fold;
 use crate::folding::fold_arguments;
 use crate::item::Item;
 use wi_arguments::{Argument, Lookup};
-use wi_fraction::Fraction;
-use wi_value_functions::{add, multiply, one, zero};
+use wi_fraction::{Fraction, Total};
+use wi_value_functions::{multiply, one, zero};
 use wi_values::{Address, ErrorKind, Value};
 
 /// SUM: the sum of the numbers that count, from the left, or the first error met; `BadNumber` where a sum doesn't fit.
@@ -20,7 +21,13 @@ pub(crate) fn sum_value<L: Lookup>(arguments: &[Argument], lookup: &L) -> Result
     ensures done { IfOk result (IsOfArguments (L.known_cell lookup.now) sum_value arguments.now) }
     ensures missing { IfErr result (IsMissing (L.known_cell lookup.now) arguments.now) }
 {
-    fold_arguments(arguments, lookup, Sum { total: zero() })
+    fold_arguments(
+        arguments,
+        lookup,
+        Sum {
+            total: Total::of(zero()),
+        },
+    )
 }
 
 /// PRODUCT: the product of the numbers that count, from the left, or the first error met; `BadNumber` where a product
@@ -34,9 +41,9 @@ pub(crate) fn product_value<L: Lookup>(arguments: &[Argument], lookup: &L) -> Re
 }
 
 /// The sum of the numbers so far.
-#[derive(Clone, Copy)]
+#[derive(Drop)]
 struct Sum {
-    total: Fraction,
+    total: Total,
 }
 
 impl Fold for Sum {
@@ -44,22 +51,20 @@ impl Fold for Sum {
 
     ghost value = { λ s. number s.total };
 
+    #[inline(always)]
     fn step(&mut self, item: Item<'_>) -> Result<(), ErrorKind> {
-        if let Some(x) = item.number()? {
-            self.total = add(self.total, x)?;
-        }
-        Ok(())
+        add_item(&mut self.total, item)
     }
 
     fn value(self) -> Value {
-        Value::Number(self.total)
+        Value::Number(self.total.number())
     }
 
     ghost passes_empty = { λ _. refl };
 }
 
 /// The product of the numbers so far.
-#[derive(Clone, Copy)]
+#[derive(Drop)]
 struct Product {
     product: Fraction,
 }

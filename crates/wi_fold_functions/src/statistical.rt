@@ -11,8 +11,8 @@ use crate::folding::fold_arguments;
 use crate::item::Item;
 use std::cmp::Ordering;
 use wi_arguments::{Argument, Lookup};
-use wi_fraction::Fraction;
-use wi_value_functions::{add, counted, divide, number_value, whole_number, zero};
+use wi_fraction::{Fraction, Total};
+use wi_value_functions::{add_to, counted, divide, number_value, whole_number, zero};
 use wi_values::{Address, ErrorKind, Value};
 
 /// MIN: the smallest number, and of none 0, or the first error met. `Err` has a cell whose value isn't known.
@@ -39,14 +39,14 @@ pub(crate) fn average_value<L: Lookup>(arguments: &[Argument], lookup: &L) -> Re
     ensures missing { IfErr result (IsMissing (L.known_cell lookup.now) arguments.now) }
 {
     let none = Average {
-        total: zero(),
+        total: Total::of(zero()),
         count: 0,
     };
     fold_arguments(arguments, lookup, none)
 }
 
 /// The smallest number so far.
-#[derive(Clone, Copy)]
+#[derive(Drop)]
 struct Least {
     least: Option<Fraction>,
 }
@@ -73,7 +73,7 @@ impl Fold for Least {
 }
 
 /// The greatest number so far.
-#[derive(Clone, Copy)]
+#[derive(Drop)]
 struct Greatest {
     greatest: Option<Fraction>,
 }
@@ -100,9 +100,9 @@ impl Fold for Greatest {
 }
 
 /// The sum of the numbers so far and how many they are.
-#[derive(Clone, Copy)]
+#[derive(Drop)]
 struct Average {
-    total: Fraction,
+    total: Total,
     count: u128,
 }
 
@@ -113,14 +113,14 @@ impl Fold for Average {
 
     fn step(&mut self, item: Item<'_>) -> Result<(), ErrorKind> {
         if let Some(x) = item.number()? {
-            self.total = add(self.total, x)?;
+            add_to(&mut self.total, &x)?;
             self.count = counted(self.count, true);
         }
         Ok(())
     }
 
     fn value(self) -> Value {
-        number_value(mean(self.total, self.count))
+        number_value(mean(self.total.number(), self.count))
     }
 
     ghost passes_empty = { λ _. refl };

@@ -1,11 +1,11 @@
 //! What is calculated with numbers (OpenFormula, "Standard Operators").
 
-ghost use Rattle.std.specs.Prelude.{◌≡◌};
+ghost use Rattle.std.specs.Prelude.{◌≡◌, Ok, Err, IfErr, OnOk, OnErr};
 ghost use Rattle.wi_standard_functions.specs.Arithmetic.{addition, subtraction, multiplication, division, exponentiation};
 ghost use Rattle.wi_value_functions.specs.Inner.Fractions.{number_or_error};
 ghost use Rattle.wi_value_functions.specs.Inner.Outcome.{number_value};
 
-use wi_fraction::{Fraction, FractionError};
+use wi_fraction::{Fraction, FractionError, Total};
 use wi_values::{ErrorKind, Value};
 
 /// The sum, or `BadNumber` where it doesn't fit.
@@ -14,6 +14,19 @@ pub fn add(x: Fraction, y: Fraction) -> Result<Fraction, ErrorKind>
     ensures { result ≡ addition x y }
 {
     number_or_error(x.checked_add(y))
+}
+
+/// Adds a number to a total. `BadNumber` where the sum doesn't fit: then the total is as before.
+#[inline(always)]
+pub fn add_to(total: &mut Total, x: &Fraction) -> Result<(), ErrorKind>
+    ensures ok { OnOk result (addition total.old x.now ≡ Ok total.new) }
+    ensures err { IfErr result (λ e. addition total.old x.now ≡ Err e) }
+    ensures same { OnErr result (total.new ≡ total.old) }
+{
+    match total.add(x) {
+        Ok(()) => Ok(()),
+        Err(_) => Err(ErrorKind::BadNumber),
+    }
 }
 
 /// The difference, or `BadNumber` where it doesn't fit.

@@ -16,7 +16,7 @@ mod table;
 mod text;
 mod value;
 
-pub use arithmetic::{add, divide, multiply, number_value, subtract};
+pub use arithmetic::{add, add_to, divide, multiply, number_value, subtract};
 pub use convert::{one, to_logical, to_number, to_whole, zero};
 pub use count::{counted, whole_number, whole_value};
 pub use first_error::{both, no_error};

@@ -11,18 +11,18 @@ returns-in_err-x-clause-err c =
     error_told (mean_with c.args.self.now (item_of c.args.item)) c.from_residual.result c.in_err-x.field-0.0 c.from_residual.ensures.1
     (mean_error c.args.self.now (item_of c.args.item) c.in_err-x.field-0.0 (sym c.in_err-x.ensures))
 
-pub returns-in_ok-self-clause-ok : goal.returns-in_ok-self-clause-ok
-returns-in_ok-self-clause-ok c =
-    mean_more c.args.self.now (item_of c.args.item) c.in-Some.x c.in_ok-self.field-0 c.counted-self.result (sym c.in_ok-x.ensures ∙ ap (λ o. Ok o) c.in-Some.is)
-    (sym c.in_ok-self.ensures) c.counted-self.ensures
+pub returns-in_ok-add_to-clause-ok : goal.returns-in_ok-add_to-clause-ok
+returns-in_ok-add_to-clause-ok c =
+    mean_more c.args.self.now (item_of c.args.item) c.in-Some.x c.add_to.new.total c.counted-self.result (sym c.in_ok-x.ensures ∙ ap (λ o. Ok o) c.in-Some.is)
+    c.in_ok-add_to.ensures.ok c.counted-self.ensures
 
-pub returns-in_err-self-clause-ok : goal.returns-in_err-self-clause-ok
-returns-in_err-self-clause-ok c = IfOk-from_err c.from_residual-in_err-self.result _ c.from_residual-in_err-self.ensures.0
+pub returns-in_err-add_to-clause-ok : goal.returns-in_err-add_to-clause-ok
+returns-in_err-add_to-clause-ok c = IfOk-from_err c.from_residual-in_err-add_to.result _ c.from_residual-in_err-add_to.ensures.0
 
-pub returns-in_err-self-clause-err : goal.returns-in_err-self-clause-err
-returns-in_err-self-clause-err c =
-    error_told (mean_with c.args.self.now (item_of c.args.item)) c.from_residual-in_err-self.result c.in_err-self.field-0.0 c.from_residual-in_err-self.ensures.1
-    (mean_too_great c.args.self.now (item_of c.args.item) c.in-Some.x c.in_err-self.field-0.0 (sym c.in_ok-x.ensures ∙ ap (λ o. Ok o) c.in-Some.is) (sym c.in_err-self.ensures))
+pub returns-in_err-add_to-clause-err : goal.returns-in_err-add_to-clause-err
+returns-in_err-add_to-clause-err c =
+    error_told (mean_with c.args.self.now (item_of c.args.item)) c.from_residual-in_err-add_to.result c.in_err-add_to.field-0.0 c.from_residual-in_err-add_to.ensures.1
+    (mean_too_great c.args.self.now (item_of c.args.item) c.in-Some.x c.in_err-add_to.field-0.0 (sym c.in_ok-x.ensures ∙ ap (λ o. Ok o) c.in-Some.is) c.in_err-add_to.ensures.err)
 
 pub returns-in_default-clause-ok : goal.returns-in_default-clause-ok
 returns-in_default-clause-ok c = mean_same c.args.self.now (item_of c.args.item) (sym c.in_ok-x.ensures ∙ ap (λ o. Ok o) c.in_default.is)
