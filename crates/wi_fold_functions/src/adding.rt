@@ -24,7 +24,7 @@ pub(crate) fn add_item(total: &mut Total, item: Item<'_>) -> Result<(), ErrorKin
     }
 }
 
-/// The same of any item. It stands apart, so that a number is added at once.
+/// As `add_item`, of any item. It stands apart, so that a number is added at once.
 #[inline(never)]
 fn add_apart(total: &mut Total, item: Item<'_>) -> Result<(), ErrorKind>
     ensures ok { OnOk result
