@@ -1,11 +1,17 @@
 -- What SUMIF adds.
 use Rattle.wi_lookup_functions.proofs.Words.{◌≡◌, ℕ, Bool, true, false, cond, ◌||◌, List, [], ◌∷◌, map, filter, fold, Option, Some, None, IfSome, refl, sym, ap, ◌∙◌, subst, Result, zip, if◌then◌else◌, list_any, or_left, or_right, Area, cells_of, is_within, ErrorKind, BadValue, Value, Empty, Number, Argument, Region, region_of, region_at, region_or, value_at, addition, zero_number, no_error, same_size, meets_is, criterion_of, is_met_by, chosen_cells, sum_of_items, sum_if_by, Item, from_cell, number_of_item, with_number, ◌>>=◌, and_then, Missing, Memory, arguments_in, refers_to, KnownAgrees, region_in, IsReferred, IsNextFilled, after_cells, IsNextAfter, known_agrees, taken_for_known, Criterion, criterion_held, is_met, empty_meets_none, Stop, NoValue, Error, Stopped, criterion_argument, Agrees, Gives, same_extent, same_place, values_where, with_cell, with_met, IsMissingInEither}
-use Rattle.std.specs.Prelude.{Ok, Err}
+use Rattle.std.proofs.Common.{is_err, inl, inr, ⊎_elim, arith}
+use Rattle.std.proofs.lemmas.Bool.{and_from, eqb-true, lt-ltb}
+use Rattle.std.specs.List.{AllByRecursion}
+use Rattle.std.specs.Prelude.{◌+◌, ◌-◌, ◌<◌, ◌==◌, ◌⊎◌, Ok, Err}
+use Rattle.wi_values.specs.Address.{row_of, column_of, rows, columns}
 use Rattle.wi_fraction.specs.Number as numbers
 use Rattle.wi_standard_functions.specs.Inner.Criteria as defined
 use Rattle.wi_arguments.specs.declared.argument.Argument as given
-use Rattle.wi_arguments.proofs.Walking as walk
-use Rattle.wi_lookup_functions.proofs.Extents.{cells_moved, same_place_inside}
+use Rattle.wi_arguments.proofs.RowMajor.{cells_inside}
+use Rattle.wi_lookup_functions.proofs.Extents.{cells_moved, same_place_inside, within_other}
+use Rattle.wi_lookup_functions.specs.Inner.Sums.{known_there, or_error, place_there, with_known, with_met_known, with_place}
+use Rattle.wi_value_functions.specs.NoValues.{IfMissing}
 use Rattle.wi_lookup_functions.proofs.Referring.{IsCriterionAt, by_criterion}
 
 -- ---- the walk adds the items
@@ -40,64 +46,83 @@ module _ (known : ℕ → Option Value) (criterion : Criterion) (r s : Area) whe
       ap (λ (cs : List ℕ). sum_of_items (values_where (is_met criterion) (map cells (cells_of r)) (map cells cs))) (cells_moved r s k)
       ∙ as_items criterion (same_place r s) cells (Ok zero_number) (cells_of r)
 
-  -- what is to come makes what is added so far the whole, whatever the cells hold
-  pub record Rest (sum : numbers.Number) (ahead : Option ℕ) : Type 0 where
-    pub inside : IfSome ahead (λ c. is_within r c ≡ true)
-    pub whole : (cells : ℕ → Value) → KnownAgrees known cells → walk.Rest (after cells) known r (Ok zero_number) (Ok sum) ahead
+  -- a sum so far, or why there is none, stands for this one of all values
+  abbrev Follows : Result numbers.Number (NoValue (Stop ℕ)) → Result numbers.Number ErrorKind → Type 0
+  Follows (Ok x) u = u ≡ Ok x
+  Follows (Err (Error e)) u = u ≡ Err e
+  Follows (Err (Stopped x)) u = IfMissing x (IsMissingInEither known r s)
 
-  passes : (cells : ℕ → Value) (t : Result numbers.Number ErrorKind) (c : ℕ) → after cells t c Empty ≡ t
-  passes cells t c = ap (λ (b : Bool). if b then with_cell t (cells (same_place r s c)) else t) (empty_meets_none criterion)
+  or_error_follows : (p : Result numbers.Number ErrorKind) → Follows (or_error p) p
+  or_error_follows (Ok x) = refl
+  or_error_follows (Err e) = refl
 
-  pub begins : (sum : numbers.Number) (from : ℕ) (found : Option ℕ) → sum ≡ zero_number → from ≡ r.first → IsNextFilled known r from found → Rest sum found
-  begins sum from found z e h = subst (λ (x : numbers.Number). Rest x found) (sym z) record {
-    inside = (walk.begins (after (taken_for_known known)) (passes (taken_for_known known)) known r (Ok zero_number) from found e h).0;
-    whole = λ cells a. walk.begins (after cells) (passes cells) known r (Ok zero_number) from found e h;
-  }
-
-  pub goes_on : (sum more : numbers.Number) (ahead : Option ℕ) (c other : ℕ) (v : Value) (found : Option ℕ) → Rest sum ahead → ahead ≡ Some c → Some v ≡ known c → other ≡ same_place r s c →
-      ((cells : ℕ → Value) → KnownAgrees known cells → (if is_met criterion v then with_cell (Ok sum) (cells other) else Ok sum) ≡ Ok more) → IsNextAfter known r c found → Rest more found
-  goes_on sum more ahead c other v found h a k o g n = record {
-    inside = (next (taken_for_known known) (known_agrees known)).0;
-    whole = next;
-  }
+  -- what is known of a cell is its value, or it is missing
+  seen : (cells : ℕ → Value) → KnownAgrees known cells → (c d : ℕ) → (known_there known c (cells c) d ≡ Some (cells d)) ⊎ ((known_there known c (cells c) d ≡ None) × (known d ≡ None))
+  seen cells a c d = at (d == c) refl
     where
-      next : (cells : ℕ → Value) → KnownAgrees known cells → walk.Rest (after cells) known r (Ok zero_number) (Ok more) found
-      next cells l = walk.goes_on (after cells) (passes cells) known r (Ok zero_number) (Ok sum) (Ok more) ahead c v found (h.whole cells l) a k
-          (sym (g cells l) ∙ ap (λ (d : ℕ). if is_met criterion v then with_cell (Ok sum) (cells d) else Ok sum) o) n
+      other : (o : Option Value) → known d ≡ o → (known d ≡ Some (cells d)) ⊎ ((known d ≡ None) × (known d ≡ None))
+      other None e = inr (e, e)
+      other (Some v) e = inl (e ∙ ap (λ (w : Value). Some w) (subst (λ (o : Option Value). IfSome o (λ w. w ≡ cells d)) e (a d)))
 
-  -- the sum is the whole
-  pub ends : (sum : numbers.Number) (ahead : Option ℕ) → same_extent r s ≡ true → Rest sum ahead → ahead ≡ None → Agrees known (IsMissingInEither known r s) (λ (x : numbers.Number). x) sum_where (Ok sum)
-  ends sum ahead k h a = λ cells l. walked_is k cells ∙ sym (walk.ends (after cells) known r (Ok zero_number) (Ok sum) ahead (h.whole cells l) a cells l)
+      at : (b : Bool) → (d == c) ≡ b → ((if b then Some (cells c) else known d) ≡ Some (cells d)) ⊎ (((if b then Some (cells c) else known d) ≡ None) × (known d ≡ None))
+      at true e = inl (ap (λ (k : ℕ). Some (cells k)) (sym (eqb-true d c e)))
+      at false e = other (known d) refl
 
-  error_stays : (b : Bool) (cells : ℕ → Value) (e : ErrorKind) (w : Value) → (if b then with_cell (Err e) w else Err e) ≡ Err e
-  error_stays true cells e w = refl
-  error_stays false cells e w = refl
+  with_there : (cells : ℕ → Value) → KnownAgrees known cells → (t : Result numbers.Number (NoValue (Stop ℕ))) (u : Result numbers.Number ErrorKind) → Follows t u → (c d : ℕ) → is_within s d ≡ true → Follows (with_known t d (known_there known c (cells c) d)) (with_cell u (cells d))
+  with_there cells a (Ok x) u h c d w =
+      ⊎_elim
+      (λ e. subst (λ (o : Option Value). Follows (with_known (Ok x) d o) (with_cell u (cells d))) (sym e) (subst (λ (v : Result numbers.Number ErrorKind). Follows (or_error (with_cell (Ok x) (cells d))) (with_cell v (cells d))) (sym h) (or_error_follows (with_cell (Ok x) (cells d)))))
+      (λ e. subst (λ (o : Option Value). Follows (with_known (Ok x) d o) (with_cell u (cells d))) (sym e.0) (e.1, or_right (is_within r d) (is_within s d) w))
+      (seen cells a c d)
+  with_there cells a (Err (Error e)) u h c d w = ap (λ (v : Result numbers.Number ErrorKind). with_cell v (cells d)) h
+  with_there cells a (Err (Stopped x)) u h c d w = h
 
-  -- a cell to be added is an error or missing
-  pub stops : (sum : numbers.Number) (ahead : Option ℕ) (c other : ℕ) (v : Value) (y x : NoValue (Stop ℕ)) → x ≡ y → same_extent r s ≡ true → Rest sum ahead → ahead ≡ Some c → Some v ≡ known c → other ≡ same_place r s c →
-      Agrees known (λ d. (d ≡ other) × (known d ≡ None)) (λ (z : numbers.Number). z) (λ cells. if is_met criterion v then with_cell (Ok sum) (cells other) else Ok sum) (Err y) →
-      Agrees known (IsMissingInEither known r s) (λ (z : numbers.Number). z) sum_where (Err x)
-  stops sum ahead c other v y x m k h a f o g = subst (λ (z : NoValue (Stop ℕ)). Agrees known (IsMissingInEither known r s) (λ (n : numbers.Number). n) sum_where (Err z)) (sym m) (at y g)
-    where
-      inside : is_within r c ≡ true
-      inside = subst (λ (p : Option ℕ). IfSome p (λ d. is_within r d ≡ true)) a h.inside
+  module _ (size : same_extent r s ≡ true) (bottom : row_of s.last < rows) where
+    place_is : (c : ℕ) → is_within r c ≡ true → place_there r s c ≡ Some (same_place r s c)
+    place_is c w =
+        let p = within_other r s c w size in
+        let row : row_of s.first + (row_of c - row_of r.first) < rows = omega (arith, p.bottom, bottom) in
+        let column : column_of s.first + (column_of c - column_of r.first) < columns = omega (arith, p.right, p.narrow) in
+        ap (λ (b : Bool). if b then Some (same_place r s c) else None) (and_from _ _ (lt-ltb _ _ row) (lt-ltb _ _ column))
 
-      at : (z : NoValue (Stop ℕ)) → Agrees known (λ d. (d ≡ other) × (known d ≡ None)) (λ (n : numbers.Number). n) (λ cells. if is_met criterion v then with_cell (Ok sum) (cells other) else Ok sum) (Err z) →
-          Agrees known (IsMissingInEither known r s) (λ (n : numbers.Number). n) sum_where (Err z)
-      at (Error e) q = λ cells l.
-          walked_is k cells
-          ∙ sym (walk.stops (after cells) known r (Ok zero_number) (Ok sum) (Err e) ahead c v (h.whole cells l) a f
-          (sym (q cells l) ∙ ap (λ (d : ℕ). if is_met criterion v then with_cell (Ok sum) (cells d) else Ok sum) o)
-          (λ d w. error_stays (is_met criterion w) cells e (cells (same_place r s d))) cells l)
-      at (Stopped (Missing d)) q = (q.1, or_right (is_within r d) (is_within s d) (subst (λ (b : ℕ). is_within s b ≡ true) (sym (q.0 ∙ o)) (same_place_inside r s c inside k)))
-      at (Stopped Memory) q = tt
+    one : (cells : ℕ → Value) → KnownAgrees known cells → (t : Result numbers.Number (NoValue (Stop ℕ))) (u : Result numbers.Number ErrorKind) (c : ℕ) → is_within r c ≡ true → Follows t u → Follows (with_met_known known criterion r s t c (cells c)) (after cells u c (cells c))
+    one cells a t u c w h = at (is_met criterion (cells c))
+      where
+        at : (b : Bool) → Follows (if b then with_place known t c (cells c) (place_there r s c) else t) (if b then with_cell u (cells (same_place r s c)) else u)
+        at true = subst (λ (o : Option ℕ). Follows (with_place known t c (cells c) o) (with_cell u (cells (same_place r s c)))) (sym (place_is c w)) (with_there cells a t u h c (same_place r s c) (same_place_inside r s c w size))
+        at false = h
 
-  -- a cell is missing
-  pub misses : (sum : numbers.Number) (ahead : Option ℕ) (c d : ℕ) (x : NoValue (Stop ℕ)) → x ≡ Stopped (Missing d) → Rest sum ahead → ahead ≡ Some c → d ≡ c → known d ≡ None → Agrees known (IsMissingInEither known r s) (λ (z : numbers.Number). z) sum_where (Err x)
-  misses sum ahead c d x m h a e k = subst (λ (z : NoValue (Stop ℕ)). Agrees known (IsMissingInEither known r s) (λ (n : numbers.Number). n) sum_where (Err z)) (sym m) (k, or_left (is_within r d) (is_within s d) (subst (λ (b : ℕ). is_within r b ≡ true) (sym e) inside))
-    where
-      inside : is_within r c ≡ true
-      inside = subst (λ (p : Option ℕ). IfSome p (λ b. is_within r b ≡ true)) a h.inside
+    through : (cells : ℕ → Value) → KnownAgrees known cells → (t : Result numbers.Number (NoValue (Stop ℕ))) (u : Result numbers.Number ErrorKind) (xs : List ℕ) → AllByRecursion (λ c. is_within r c ≡ true) xs → Follows t u → Follows (after_cells (with_met_known known criterion r s) cells t xs) (after_cells (after cells) cells u xs)
+    through cells a t u [] w h = h
+    through cells a t u (x ∷ xs) w h = through cells a (with_met_known known criterion r s t x (cells x)) (after cells u x (cells x)) xs w.1 (one cells a t u x w.0 h)
+
+    -- what a walk makes is the sum, its error, or a cell that is missing
+    pub sums : (sum : numbers.Number) (t : Result numbers.Number (NoValue (Stop ℕ))) → sum ≡ zero_number → ((cells : ℕ → Value) → KnownAgrees known cells → t ≡ after_cells (with_met_known known criterion r s) cells (Ok sum) (cells_of r)) → Agrees known (IsMissingInEither known r s) (λ (x : numbers.Number). x) sum_where t
+    sums sum t z h = at t (λ cells a. subst (λ (v : Result numbers.Number (NoValue (Stop ℕ))). Follows v (after_cells (after cells) cells (Ok zero_number) (cells_of r))) (sym (h cells a)) (through cells a (Ok sum) (Ok zero_number) (cells_of r) (cells_inside r) (ap (λ (x : numbers.Number). Ok x) (sym z))))
+      where
+        at : (v : Result numbers.Number (NoValue (Stop ℕ))) → ((cells : ℕ → Value) → KnownAgrees known cells → Follows v (after_cells (after cells) cells (Ok zero_number) (cells_of r))) → Agrees known (IsMissingInEither known r s) (λ (x : numbers.Number). x) sum_where v
+        at (Ok x) f = λ cells a. walked_is size cells ∙ f cells a
+        at (Err (Error e)) f = λ cells a. walked_is size cells ∙ f cells a
+        at (Err (Stopped x)) f = f (taken_for_known known) (known_agrees known)
+
+  -- or a cell of the first region is missing
+  pub misses : (d : ℕ) (x : NoValue (Stop ℕ)) → x ≡ Stopped (Missing d) → known d ≡ None → is_within r d ≡ true → Agrees known (IsMissingInEither known r s) (λ (z : numbers.Number). z) sum_where (Err x)
+  misses d x m n w = subst (λ (y : NoValue (Stop ℕ)). Agrees known (IsMissingInEither known r s) (λ (z : numbers.Number). z) sum_where (Err y)) (sym m) (n, or_left (is_within r d) (is_within s d) w)
+
+-- what a struct holds is made by each step alone
+pub held_through : {S T : Type 0} (held : S → T) (holding : T → S) (after : S → ℕ → Value → S) (step : T → ℕ → Value → T) → ((t : T) (c : ℕ) (v : Value) → after (holding t) c v ≡ holding (step t c v)) → ((t : T) → held (holding t) ≡ t) → (cells : ℕ → Value) (t : T) (xs : List ℕ) → held (after_cells after cells (holding t) xs) ≡ after_cells step cells t xs
+held_through held holding after step same back cells t [] = back t
+held_through {S = S} held holding after step same back cells t (x ∷ xs) = ap (λ (u : S). held (after_cells after cells u xs)) (same t x (cells x)) ∙ held_through held holding after step same back cells (step t x (cells x)) xs
+
+-- nothing more makes a difference where there is no sum
+pub no_sum_stays : (known : ℕ → Option Value) (criterion : Criterion) (r s : Area) (t : Result numbers.Number (NoValue (Stop ℕ))) → is_err t ≡ true → (c : ℕ) (v : Value) → with_met_known known criterion r s t c v ≡ t
+no_sum_stays known criterion r s (Ok x) e c v = cc
+no_sum_stays known criterion r s (Err n) e c v = at (is_met criterion v) (place_there r s c)
+  where
+    at : (b : Bool) (o : Option ℕ) → (if b then with_place known (Err n) c v o else Err n) ≡ Err n
+    at false o = refl
+    at true None = refl
+    at true (Some d) = refl
 
 -- ---- the ends of SUMIF
 

@@ -2,7 +2,7 @@
 
 ghost use Rattle.std.specs.Prelude.{◌≡◌, true};
 ghost use Rattle.wi_values.specs.Address.{is_within};
-ghost use Rattle.wi_lookup_functions.specs.Inner.Sums.{same_extent, same_place};
+ghost use Rattle.wi_lookup_functions.specs.Inner.Sums.{place_there, same_extent, same_place};
 
 use wi_values::{Address, Rect};
 
@@ -23,5 +23,16 @@ pub(crate) fn same_place(at: Address, one: Rect, other: Rect) -> Address
     Address::at(
         other.first().row() + (at.row() - one.first().row()),
         other.first().column() + (at.column() - one.first().column()),
+    )
+}
+
+/// The same of any cell, if that cell lies in the sheet.
+#[inline(always)]
+pub(crate) fn place_there(at: Address, one: Rect, other: Rect) -> Option<Address>
+    ensures { result ≡ place_there one other at }
+{
+    Address::new(
+        other.first().row() + at.row().saturating_sub(one.first().row()),
+        other.first().column() + at.column().saturating_sub(one.first().column()),
     )
 }

@@ -1,6 +1,12 @@
 //! SUMIF (OpenFormula, "Mathematical Functions").
 
-ghost use Rattle.std.specs.Prelude.{◌≡◌, true, None, Ok, IfOk, IfErr, if◌then◌else◌};
+ghost use Rattle.std.specs.Prelude.{◌≡◌, ℕ, true, None, Some, is_some, is_err, Result, Ok, Err, IfOk, IfErr, OnOk};
+ghost use Rattle.std.specs.ControlFlow.{break_value};
+ghost use Rattle.std.proofs.Common.{ap};
+ghost use Rattle.wi_fraction.specs.Number.{Number};
+ghost use Rattle.wi_value_functions.specs.declared.no_value.NoValue.{NoValue as NoValues};
+ghost use Rattle.wi_value_functions.specs.declared.no_value.Stop.{Stop as Stops};
+ghost use Rattle.wi_lookup_functions.specs.Inner.Laws.{empty_not_summed};
 ghost use Rattle.wi_standard_functions.specs.Arguments.{region_of};
 ghost use Rattle.wi_standard_functions.specs.Inner.Named.{sum_of_items};
 ghost use Rattle.wi_standard_functions.specs.Inner.Named.{sum_if_by};
@@ -8,17 +14,18 @@ ghost use Rattle.wi_value_functions.specs.NoValues.{IfMissing};
 ghost use Rattle.wi_arguments.specs.Arguments.{IsMissing, IsOfArguments};
 ghost use Rattle.wi_lookup_functions.specs.Inner.Meeting.{is_met};
 ghost use Rattle.wi_lookup_functions.specs.Inner.Giving.{Agrees, Gives};
-ghost use Rattle.wi_lookup_functions.specs.Inner.Sums.{same_extent, values_where, with_cell, IsMissingInEither};
+ghost use Rattle.wi_lookup_functions.specs.Inner.Sums.{known_there, same_extent, values_where, with_cell, with_known, with_met_known, IsMissingInEither};
 
 use crate::arguments::area_at;
-use crate::cells::{next_after, value_of};
+use crate::cells::value_of;
 use crate::criteria::{area_or, criterion_at};
 use crate::criterion::Criterion;
-use crate::extent::{same_extent, same_place};
+use crate::extent::{place_there, same_extent};
 use std::alloc::Global;
-use wi_arguments::{Argument, Lookup};
-use wi_fraction::Fraction;
-use wi_value_functions::{NoValue, Stop, add, as_value, zero};
+use std::ops::ControlFlow;
+use wi_arguments::{Argument, Lookup, TakesCells, take_cells};
+use wi_fraction::{Fraction, Total};
+use wi_value_functions::{NoValue, Stop, add_to, as_value, zero};
 use wi_values::{Address, ErrorKind, Rect, Value};
 
 /// SUMIF: the sum of the third argument's cells at the places where the first's meet the criterion that the second is;
@@ -69,48 +76,132 @@ fn sum_met<L: Lookup>(
         (region_of cells area).values (region_of cells added).values))
         result }
 {
-    let mut sum = zero();
-    let mut ahead = lookup.next_filled(area, area.first());
-    while let Some(at) = ahead {
-        let value = value_of(at, lookup)?;
-        let more = with_met(criterion, value, sum, same_place(at, area, added), lookup)?;
-        sum = more;
-        ahead = next_after(area, at, lookup);
-    }
-    Ok(sum)
+    // Its rows lie in the sheet.
+    let _ = added.last().row();
+    let mut summing = Summing {
+        criterion,
+        area,
+        added,
+        lookup,
+        so_far: Ok(Total::of(zero())),
+    };
+    take_cells(area, lookup, &mut summing)?;
+    number_of(summing.so_far)
 }
 
-/// A sum with one more cell, where the value at its place meets the criterion.
-fn with_met<L: Lookup>(
-    criterion: &Criterion,
+/// The sum that a total is.
+fn number_of(
+    so_far: Result<Total, NoValue<Stop<Address>>>,
+) -> Result<Fraction, NoValue<Stop<Address>>>
+    ensures { result ≡ so_far }
+{
+    match so_far {
+        Ok(total) => Ok(total.number()),
+        Err(no_value) => Err(no_value),
+    }
+}
+
+/// The sum so far of the cells at the places where those of another rectangle meet a criterion, or why there is none.
+#[derive(Drop)]
+struct Summing<'a, L> {
+    criterion: &'a Criterion,
+    area: Rect,
+    added: Rect,
+    lookup: &'a L,
+    so_far: Result<Total, NoValue<Stop<Address>>>,
+}
+
+impl<'a, L: Lookup> TakesCells for Summing<'a, L> {
+    ghost after = { λ s c v. record s { so_far = with_met_known (L.known_cell s.lookup.now) s.criterion.now s.area s.added s.so_far c v } };
+
+    fn take(&mut self, at: Address, value: &Value) -> ControlFlow<()> {
+        if !self.criterion.meets(value) {
+            return ControlFlow::Continue(());
+        }
+        match place_there(at, self.area, self.added) {
+            Some(other) => add_there(&mut self.so_far, at, value, other, self.lookup),
+            None => ControlFlow::Continue(()),
+        }
+    }
+
+    ghost passes_empty = { λ s c. ap (λ (r : Result Number (NoValues (Stops ℕ))). record s { so_far = r }) (empty_not_summed (L.known_cell s.lookup.now) s.criterion.now s.area s.added s.so_far c) };
+}
+
+/// Adds the cell at the place of one that has a value itself, and tells whether another could make a difference.
+#[inline(always)]
+fn add_there<L: Lookup>(
+    so_far: &mut Result<Total, NoValue<Stop<Address>>>,
+    at: Address,
     value: &Value,
-    sum: Fraction,
     other: Address,
     lookup: &L,
-) -> Result<Fraction, NoValue<Stop<Address>>>
-    ensures { Agrees (L.known_cell lookup.now)
-        (λ c. (c ≡ other) × (L.known_cell lookup.now c ≡ None))
-        (λ x. x)
-        (λ cells. if is_met criterion.now value.now
-        then with_cell (Ok sum) (cells other) else Ok sum)
-        result }
+) -> ControlFlow<()>
+    ensures taken { so_far.new ≡ with_known so_far.old other
+        (known_there (L.known_cell lookup.now) at value.now other) }
+    ensures broken { is_some (break_value result) ≡ true → is_err so_far.new ≡ true }
 {
-    if !criterion.meets(value) {
-        return Ok(sum);
+    let added = match so_far {
+        Ok(total) => add_known(total, at, value, other, lookup),
+        Err(_) => return ControlFlow::Break(()),
+    };
+    match added {
+        Ok(()) => ControlFlow::Continue(()),
+        Err(no_value) => {
+            *so_far = Err(no_value);
+            ControlFlow::Break(())
+        }
     }
-    let added = value_of(other, lookup)?;
-    Ok(with_cell(sum, added)?)
 }
 
-/// A sum with the number of one more cell, where it has one.
-fn with_cell(sum: Fraction, value: &Value) -> Result<Fraction, ErrorKind>
-    ensures { result ≡ with_cell (Ok sum) value.now }
+/// Adds that cell to a total.
+#[inline(always)]
+fn add_known<L: Lookup>(
+    total: &mut Total,
+    at: Address,
+    value: &Value,
+    other: Address,
+    lookup: &L,
+) -> Result<(), NoValue<Stop<Address>>>
+    ensures ok { OnOk result (with_known (Ok total.old) other
+        (known_there (L.known_cell lookup.now) at value.now other) ≡ Ok total.new) }
+    ensures err { IfErr result (λ n. with_known (Ok total.old) other
+        (known_there (L.known_cell lookup.now) at value.now other) ≡ Err n) }
+{
+    let there = value_there(at, value, other, lookup)?;
+    add_cell(total, there)?;
+    Ok(())
+}
+
+/// The value of a cell beside one that has a value itself, or the cell where that is missing.
+#[inline(always)]
+fn value_there<'a, L: Lookup>(
+    at: Address,
+    value: &'a Value,
+    other: Address,
+    lookup: &'a L,
+) -> Result<&'a Value, Address>
+    ensures known { IfOk result (λ v.
+        known_there (L.known_cell lookup.now) at value.now other ≡ Some v.now) }
+    ensures missing { IfErr result (λ c. (c ≡ other)
+        × (known_there (L.known_cell lookup.now) at value.now other ≡ None)) }
+{
+    if other == at {
+        return Ok(value);
+    }
+    value_of(other, lookup)
+}
+
+/// Adds the number of a cell, where it has one.
+#[inline(always)]
+fn add_cell(total: &mut Total, value: &Value) -> Result<(), ErrorKind>
+    ensures ok { OnOk result (with_cell (Ok total.old) value.now ≡ Ok total.new) }
+    ensures err { IfErr result (λ e. with_cell (Ok total.old) value.now ≡ Err e) }
 {
     match value {
-        Value::Empty => Ok(sum),
-        Value::Number(x) => add(sum, *x),
-        Value::Text(_) => Ok(sum),
-        Value::Logical(_) => Ok(sum),
+        Value::Empty => Ok(()),
+        Value::Number(x) => add_to(total, x),
+        Value::Text(_) => Ok(()),
+        Value::Logical(_) => Ok(()),
         Value::Fault(e) => Err(*e),
     }
 }

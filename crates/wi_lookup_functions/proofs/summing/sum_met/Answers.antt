@@ -1,25 +1,19 @@
-use Rattle.wi_lookup_functions.proofs.Words.{err_from_is_err_and}
-use Rattle.wi_lookup_functions.proofs.Sums.{begins, goes_on, ends, stops, misses}
+use Rattle.wi_lookup_functions.proofs.Words.{◌<◌, refl, ap, ◌∙◌, cells_of, row_of, ℕ, Result, NoValue, Stop}
+use Rattle.std.specs.Prelude.{Ok}
+use Rattle.wi_fraction.specs.Number.{Number}
+use Rattle.wi_values.specs.Address.{rows}
+use Rattle.wi_lookup_functions.specs.declared.summing.Summing.{Summing}
+use Rattle.wi_lookup_functions.specs.Inner.Sums.{with_met_known}
+use Rattle.wi_lookup_functions.proofs.Sums.{held_through, sums}
 use Rattle.wi_lookup_functions.proofs.summing.sum_met.Goals as goal
-
-pub loop-ahead-init : goal.loop-ahead-init
-loop-ahead-init g c =
-    begins (g.L.Lookup.known_cell c.args.lookup.now) c.args.criterion.now c.args.area c.args.added c.zero-sum.result c.first.result c.next_filled-ahead.result c.zero-sum.ensures c.first.ensures c.next_filled-ahead.ensures
-
-pub loop-ahead-preserved : goal.loop-ahead-preserved
-loop-ahead-preserved g c =
-    goes_on (g.L.Lookup.known_cell c.args.lookup.now) c.args.criterion.now c.args.area c.args.added c.loop-ahead.sum c.in_ok-more.more c.loop-ahead.ahead c.in-Some.at c.same_place.result c.in_ok-value.value.now c.next_after-ahead.result c.loop-ahead.invariant c.in-Some.is c.in_ok-value.ensures.known c.same_place.ensures c.in_ok-more.ensures c.next_after-ahead.ensures
-
-pub returns-in_err-value : goal.returns-in_err-value
-returns-in_err-value g c =
-    let p = err_from_is_err_and c.from_residual.result c.from_residual.ensures.1 in
-    rw p.1 (misses (g.L.Lookup.known_cell c.args.lookup.now) c.args.criterion.now c.args.area c.args.added c.loop-ahead.sum c.loop-ahead.ahead c.in-Some.at c.in_err-value.field-0.0 p.0 p.2 c.loop-ahead.invariant c.in-Some.is c.in_err-value.ensures.itself c.in_err-value.ensures.missing)
-
-pub returns-in_err-more : goal.returns-in_err-more
-returns-in_err-more g c =
-    let p = err_from_is_err_and c.from_residual-in_err-more.result c.from_residual-in_err-more.ensures.1 in
-    rw p.1 (stops (g.L.Lookup.known_cell c.args.lookup.now) c.args.criterion.now c.args.area c.args.added c.loop-ahead.sum c.loop-ahead.ahead c.in-Some.at c.same_place.result c.in_ok-value.value.now c.in_err-more.field-0.0 p.0 p.2 c.requires c.loop-ahead.invariant c.in-Some.is c.in_ok-value.ensures.known c.same_place.ensures c.in_err-more.ensures)
 
 pub returns : goal.returns
 returns g c =
-    ends (g.L.Lookup.known_cell c.args.lookup.now) c.args.criterion.now c.args.area c.args.added c.loop-ahead.sum c.loop-ahead.ahead c.requires c.loop-ahead.invariant c.in_default.is
+    let known = g.L.Lookup.known_cell c.args.lookup.now in
+    let bottom : row_of c.args.added.last < rows = rw (c.row.ensures.value, c.last.ensures) at c.row.ensures.within in
+    sums known c.args.criterion.now c.args.area c.args.added c.requires bottom c.of.result c.number_of.result (c.of.ensures ∙ c.zero.ensures)
+    (λ cells k. c.number_of.ensures
+    ∙ ap (λ (s : Summing g.row.L.Denot). s.so_far) (c.in_ok-take_cells.ensures.taken cells k)
+    ∙ held_through {S = Summing g.row.L.Denot} {T = Result Number (NoValue (Stop ℕ))} (λ s. s.so_far) (λ t. record { criterion = c.args.criterion; area = c.args.area; added = c.args.added; lookup = c.args.lookup; so_far = t })
+    (λ s d v. record s { so_far = with_met_known (g.L.Lookup.known_cell s.lookup.now) s.criterion.now s.area s.added s.so_far d v }) (with_met_known known c.args.criterion.now c.args.area c.args.added)
+    (λ t d v. refl) (λ t. refl) cells (Ok c.of.result) (cells_of c.args.area))
