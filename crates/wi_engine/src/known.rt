@@ -98,6 +98,7 @@ impl<'a> Known<'a> {
     /// until one is missing. It takes a step for each cell, and for a formula a look at what was found; beside that a
     /// search for each 16 rows, and where more than one of their tiles lie in the rectangle, a step for each tile of
     /// each row.
+    #[inline(always)]
     fn hand_stored<T: TakesCells>(
         &self,
         area: Rect,
