@@ -26,7 +26,7 @@ pub(crate) fn same_place(at: Address, one: Rect, other: Rect) -> Address
     )
 }
 
-/// The same of any cell, if that cell lies in the sheet.
+/// As `same_place`, of any cell, if the place lies in the sheet.
 #[inline(always)]
 pub(crate) fn place_there(at: Address, one: Rect, other: Rect) -> Option<Address>
     ensures { result ≡ place_there one other at }

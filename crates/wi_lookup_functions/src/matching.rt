@@ -21,7 +21,7 @@ pub(crate) fn match_order(value: &Value, sought: &Value) -> Option<Ordering>
     }
 }
 
-/// The same of values of any kinds. It stands apart, so that numbers are compared at once.
+/// As `match_order`, of values of any kinds. It stands apart, so that numbers are compared at once.
 #[inline(never)]
 fn order_apart(value: &Value, sought: &Value) -> Option<Ordering>
     ensures { result ≡ if same_kind value.now sought.now

@@ -23,7 +23,7 @@ same_extent r s = (height r == height s) && (width r == width s)
 abbrev pub same_place : Area → Area → ℕ → ℕ
 same_place r s c = place (row_of s.first + (row_of c - row_of r.first)) (column_of s.first + (column_of c - column_of r.first))
 
--- the same, where that lies in the sheet
+-- that place, where it lies in the sheet
 abbrev pub place_there : Area → Area → ℕ → Option ℕ
 place_there r s c =
     if nat_lt (row_of s.first + (row_of c - row_of r.first)) rows && nat_lt (column_of s.first + (column_of c - column_of r.first)) columns
