@@ -61,7 +61,7 @@ covered a b r (suc k) f h i j l =
 
 -- ---- any of the pieces
 
-any_gives : (f : Piece → Bool) (ks : List Piece) → list_any f ks ≡ true → (q : Piece) × (f q ≡ true) × (has_piece ks q ≡ true)
+pub any_gives : (f : Piece → Bool) (ks : List Piece) → list_any f ks ≡ true → (q : Piece) × (f q ≡ true) × (has_piece ks q ≡ true)
 any_gives f [] h = absurd (true≢false (sym h))
 any_gives f (x ∷ xs) h = by (f x) refl h (any_gives f xs)
   where
@@ -71,7 +71,7 @@ any_gives f (x ∷ xs) h = by (f x) refl h (any_gives f xs)
     by true e g r = (x, e, or_left _ _ (piece_self x))
     by false e g r = let s = r g in (s.0, s.1, or_right _ _ s.2)
 
-any_from : (f : Piece → Bool) (ks : List Piece) (q : Piece) → has_piece ks q ≡ true → f q ≡ true → list_any f ks ≡ true
+pub any_from : (f : Piece → Bool) (ks : List Piece) (q : Piece) → has_piece ks q ≡ true → f q ≡ true → list_any f ks ≡ true
 any_from f [] q h e = absurd (true≢false (sym h))
 any_from f (x ∷ xs) q h e = by (is_at (piece_cmp q) x) refl h (any_from f xs q)
   where

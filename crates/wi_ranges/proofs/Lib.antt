@@ -10,6 +10,8 @@ pub mod LargestLemmas
 pub mod Rows
 pub mod Apart
 mod AroundLemmas
+mod AreaLemmas
+mod TellLemmas
 mod Levels
 mod First
 mod Sums

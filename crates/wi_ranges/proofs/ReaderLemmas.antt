@@ -3,10 +3,10 @@ use Rattle.wi_ranges.proofs.Words.{◌≡◌, ℕ, nat_eq, Bool, true, false, no
 
 -- ---- which pieces come from a block on, and before the next
 
-no_later : (a : ℕ) → is_le (nat_cmp 0 a) ≡ true
+pub no_later : (a : ℕ) → is_le (nat_cmp 0 a) ≡ true
 no_later a = grind (arith, nat_tests)
 
-no_later_then : (o p : Ordering) → is_le o ≡ true → is_le p ≡ true → is_le (ordering_then o p) ≡ true
+pub no_later_then : (o p : Ordering) → is_le o ≡ true → is_le p ≡ true → is_le (ordering_then o p) ≡ true
 no_later_then Less p h k = refl
 no_later_then Equal p h k = k
 no_later_then Greater p h k = h
@@ -14,11 +14,11 @@ no_later_then Greater p h k = h
 lowest_first : (p : RangePair) → is_le (pair_cmp lowest_pair p) ≡ true
 lowest_first p = no_later_then (nat_cmp 0 p.first) _ (no_later p.first) (no_later_then (nat_cmp 0 p.last) _ (no_later p.last) (no_later p.reader))
 
-lowest_numbered : (m : Numbered) → is_le (numbered_cmp lowest m) ≡ true
+pub lowest_numbered : (m : Numbered) → is_le (numbered_cmp lowest m) ≡ true
 lowest_numbered m = no_later_then (pair_cmp lowest_pair m.pair) _ (lowest_first m.pair) (no_later m.number)
 
 -- a piece at a block comes from its first place on
-at_or_after : (o p : Ordering) → is_le p ≡ true → is_eq o ≡ true → is_le (ordering_then o p) ≡ true
+pub at_or_after : (o p : Ordering) → is_le p ≡ true → is_eq o ≡ true → is_le (ordering_then o p) ≡ true
 at_or_after Less p h e = refl
 at_or_after Equal p h e = h
 at_or_after Greater p h e = absurd (true≢false (sym e))
@@ -32,7 +32,7 @@ from_first x a r q h =
     and_from _ true (at_or_after (block_cmp x q.0) _ (lowest_numbered q.1) here) refl
 
 -- what comes after a piece of a later block is of later blocks
-later : (x k y : Block) (p o : Ordering) → is_le (ordering_then (block_cmp x k) p) ≡ true → is_at (block_cmp x) k ≡ false
+pub later : (x k y : Block) (p o : Ordering) → is_le (ordering_then (block_cmp x k) p) ≡ true → is_at (block_cmp x) k ≡ false
     → ordering_then (block_cmp k y) o ≡ Less → is_at (block_cmp x) y ≡ false
 later x k y p o h n l = grind (arith, nat_tests)
 
@@ -66,7 +66,7 @@ come_first x (k ∷ ks) h = by (is_from x k) refl (come_first x ks (sorted_tail 
 -- ---- any of a filter, any of two tests
 
 -- where what passes a test passes another
-any_of_filter : {X : Type 0} (t p : X → Bool) (xs : List X) → ((x : X) → p x ≡ true → t x ≡ true) → list_any p (filter t xs) ≡ list_any p xs
+pub any_of_filter : {X : Type 0} (t p : X → Bool) (xs : List X) → ((x : X) → p x ≡ true → t x ≡ true) → list_any p (filter t xs) ≡ list_any p xs
 any_of_filter t p [] e = refl
 any_of_filter t p (x ∷ xs) e = by (t x) (p x) refl refl (any_of_filter t p xs e)
   where
@@ -126,7 +126,7 @@ passes_not f b h e r = by (f r) refl
     by true g = absurd (true≢false (sym (h.1 (r, g)) ∙ e))
     by false g = refl
 
-another : (x y : Block) → true ≡ not (nat_eq y.level x.level && nat_eq y.first x.first) → is_at (block_cmp x) y ≡ false
+pub another : (x y : Block) → true ≡ not (nat_eq y.level x.level && nat_eq y.first x.first) → is_at (block_cmp x) y ≡ false
 another x y h = grind (arith, nat_tests)
 
 pub found_to_block : (x : Block) (a r : ℕ) (q : Piece) (qs rest all ks : List Piece) (old new : Bool) → all ≡ filter (is_from x) ks → rest ≡ q ∷ qs
@@ -155,7 +155,7 @@ found_no_more x a r q qs rest now all e n h =
     ap (λ b. now || (b || list_any (reads_at (x ∷ []) a r) qs)) (sym (ap (λ b. (is_at (block_cmp x) q.0 || false) && (b && (q.1.pair.reader == r))) (sym n) ∙ none_of_both (is_at (block_cmp x) q.0 || false) (q.1.pair.reader == r)))
     ∙ ap (λ (us : List Piece). now || list_any (reads_at (x ∷ []) a r) us) (sym e) ∙ h
 
-here : (x y : Block) → false ≡ not (nat_eq y.level x.level && nat_eq y.first x.first) → is_at (block_cmp x) y ≡ true
+pub here : (x y : Block) → false ≡ not (nat_eq y.level x.level && nat_eq y.first x.first) → is_at (block_cmp x) y ≡ true
 here x y h = grind (arith, nat_tests)
 
 -- a piece at the block, whose pair has the cell

@@ -4,3 +4,4 @@ pub mod Around
 pub mod Index
 pub mod Rising
 pub mod Singles
+pub mod Telling

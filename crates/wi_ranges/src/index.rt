@@ -4,6 +4,7 @@ ghost use Rattle.std.specs.Prelude.{◌≡◌, [], ℕ, ◌↔◌, IsTrue, IfOk,
 ghost use Rattle.std.specs.List.{Contains};
 ghost use Rattle.std.specs.List.Sorted.{IsStrictlyIncreasing};
 ghost use Rattle.wi_ranges.specs.Bag.{pair_for, pieces_of, HasOneMore, HasOneLess, IsReader, IsRead};
+ghost use Rattle.wi_ranges.specs.Inner.Telling.{telling};
 
 use crate::around::{has_cell, with_area};
 use crate::bag::{add_pair, remove_pair};
@@ -11,6 +12,7 @@ use crate::pair::RangePair;
 use crate::pieces::Pieces;
 use crate::readers::{add_readers_of, has_readers_in};
 use crate::rising_set::RisingSet;
+use crate::search::ReaderSearch;
 use crate::singles::Singles;
 use std::alloc::{AllocError, Global};
 use std::collections::BTreeSet;
@@ -115,6 +117,13 @@ impl RangeIndex {
             return false;
         }
         has_readers_in(&self.pieces, at)
+    }
+
+    /// A search for the readers of one cell after another, in which nothing was told. Takes no memory.
+    pub fn search(&self) -> ReaderSearch<'_>
+        ensures { result ≡ telling self.now [] }
+    {
+        ReaderSearch::new(self.alloc, self, &self.singles, &self.pieces, self.around)
     }
 
     /// How many blocks all pairs have together.

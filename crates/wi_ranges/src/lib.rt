@@ -11,7 +11,10 @@ mod pair;
 mod pieces;
 mod readers;
 mod rising_set;
+mod search;
 mod singles;
+mod telling;
 
 pub use index::RangeIndex;
 pub use rising_set::RisingSet;
+pub use search::ReaderSearch;

@@ -5,6 +5,7 @@ ghost use Rattle.wi_values.specs.Address.{is_within, rows};
 ghost use Rattle.wi_ranges.specs.Bag.{pair_for, pair_area, lowest_pair};
 ghost use Rattle.wi_ranges.specs.Blocks.{blocks_of, last_row};
 ghost use Rattle.wi_ranges.specs.Inner.Index.{lowest};
+ghost use Rattle.wi_ranges.specs.Inner.Telling.{first_for, is_same_area};
 
 use wi_values::{Address, Rect};
 
@@ -55,6 +56,27 @@ impl RangePair {
             first,
             last: first,
             reader: first,
+        }
+    }
+
+    /// Whether another pair is of the same rectangle.
+    pub(crate) fn has_area_of(&self, other: &RangePair) -> bool
+        ensures { result ≡ is_same_area self.now other.now }
+    {
+        self.first == other.first && self.last == other.last
+    }
+
+    /// The first of the numbered pairs of its rectangle.
+    pub(crate) fn first_numbered(&self) -> Numbered
+        ensures { result ≡ first_for self.now }
+    {
+        Numbered {
+            pair: RangePair {
+                first: self.first,
+                last: self.last,
+                reader: Address::at(0, 0),
+            },
+            number: 0,
         }
     }
 

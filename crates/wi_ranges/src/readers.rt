@@ -26,7 +26,7 @@ fn highest_level(pieces: &Pieces) -> u32
 }
 
 /// The block that holds a row, of the highest level at which a piece stands. At those above it nothing stands.
-fn highest_block(pieces: &Pieces, row: u32) -> Block
+pub(crate) fn highest_block(pieces: &Pieces, row: u32) -> Block
     ensures within { result.first + 2 ^ result.level ≤ rows }
     ensures all { (a r : ℕ)
         → list_any (reads_at (blocks_with row result.level result.first) a r) pieces.now.keys
