@@ -1,5 +1,5 @@
 -- Steps of a search over readers: one that stops at watched cells, and one that stops nowhere.
-use Rattle.wi_graph.proofs.Words.{◌≡◌, ◌==◌, ◌&&◌, ◌||◌, ◌⊎◌, inl, inr, not, ℕ, ◌+◌, ◌<◌, ◌↔◌, Bool, true, false, List, [], ◌∷◌, ◌++◌, length, take, get_or, ap, sym, ◌∙◌, subst, arith, or_cases, or_left, or_right, and_parts, and_from, cases_Bool, not-true, not_from_false, false_from_ne_true, length-append, any-filter_same, filter-append, list_any, Contains, nat_cmp, is_at, BTreeSet, contains, IsStrictlyIncreasing, one_truth, Sheet, content_of, content_reads, Bag, IsReader, IsRead, taken_more, is_one_of, in_cone, IsClosedUp, IsUnread, AreEdgesOf, Rooms, edges_in, IsGraph, HasAll, GoesToReaders, IsLeast, IsConeBeyond, IsListBeyond, beyond, as_set, missing, AreEnqueued, has_key, has-from_Contains, Contains-from_has, refl, IsConeSet}
+use Rattle.wi_graph.proofs.Words.{◌≡◌, ◌==◌, ◌&&◌, ◌||◌, ◌⊎◌, inl, inr, not, ℕ, ◌+◌, ◌<◌, ◌↔◌, Bool, true, false, List, [], ◌∷◌, ◌++◌, length, take, get_or, ap, sym, ◌∙◌, subst, arith, or_cases, or_left, or_right, and_parts, and_from, cases_Bool, not-true, not_from_false, false_from_ne_true, length-append, any-filter_same, filter-append, list_any, Contains, nat_cmp, is_at, BTreeSet, contains, IsStrictlyIncreasing, one_truth, Sheet, content_of, content_reads, Bag, IsReader, IsRead, Telling, telling, Answers, taken_more, is_one_of, in_cone, IsClosedUp, IsUnread, AreEdgesOf, Rooms, edges_in, IsGraph, HasAll, GoesToReaders, IsLeast, IsConeBeyond, IsListBeyond, beyond, as_set, missing, AreEnqueued, has_key, has-from_Contains, Contains-from_has, refl, IsConeSet}
 use Rattle.wi_values.proofs.Lists.{filter_all}
 use Rattle.wi_graph.proofs.Tests.{is_itself, clash}
 use Rattle.wi_graph.proofs.Walks.{same_cell}
@@ -60,9 +60,15 @@ beyond_start readers w cells none found empty work e f k n = record {
     first : (c : ℕ) → contains nat_cmp found c ≡ true → is_one_of cells c ≡ true
     first c i = is_first c (or_cases (contains nat_cmp none c) _ (sym (n.found c) ∙ i))
 
-pub beyond_step : (readers : Bag) (w : ℕ → Bool) (cells : List ℕ) (found more : BTreeSet ℕ) (work less after next enqueued : List ℕ) (cell : ℕ) → work ≡ less ++ cell ∷ [] → AreReaders readers cell next → enqueued ≡ next →
+-- what was told is found or watched
+abbrev pub AreFound : (ℕ → Bool) → BTreeSet ℕ → List ℕ → Type 0
+AreFound w found told = (r : ℕ) → is_one_of told r ≡ true → w r ≡ false → contains nat_cmp found r ≡ true
+
+-- a cell is taken, and its readers but for some that were told before
+told_step : (readers : Bag) (w : ℕ → Bool) (cells : List ℕ) (found more : BTreeSet ℕ) (work less after next enqueued : List ℕ) (cell : ℕ) (told : List ℕ) → work ≡ less ++ cell ∷ [] →
+    ((d : ℕ) → is_one_of next d ≡ true → IsReader readers cell d) → ((d : ℕ) → IsReader readers cell d → (is_one_of next d ≡ true) ⊎ (is_one_of told d ≡ true)) → AreFound w found told → enqueued ≡ next →
     AreEnqueued (beyond w enqueued) found more less after → IsSearchingBeyond readers w cells found work → IsSearchingBeyond readers w cells more after
-beyond_step readers w cells found more work less after next enqueued cell e r q m s = record {
+told_step readers w cells found more work less after next enqueued cell told e only each t q m s = record {
   all = λ c i. still c (s.all c i);
   opened = λ a d i j u. opened a d i j u (cases_Bool (contains nat_cmp found a));
   within = λ c i. within c (n.within c i);
@@ -76,9 +82,13 @@ beyond_step readers w cells found more work less after next enqueued cell e r q 
     still : (c : ℕ) → contains nat_cmp found c ≡ true → contains nat_cmp more c ≡ true
     still c i = n.found c ∙ or_left (contains nat_cmp found c) _ i
 
+    reads : (d : ℕ) → w d ≡ false → (is_one_of next d ≡ true) ⊎ (is_one_of told d ≡ true) → contains nat_cmp more d ≡ true
+    reads d u (inl j) = n.found d ∙ or_right (contains nat_cmp found d) _ (beyond_in w next d j u)
+    reads d u (inr j) = still d (t d j u)
+
     gone : (a d : ℕ) → IsReader readers a d → w d ≡ false → (is_one_of less a ≡ true) ⊎ (cell ≡ a) → (is_one_of after a ≡ true) ⊎ (contains nat_cmp more d ≡ true)
     gone a d i u (inl j) = inl (n.stays a j)
-    gone a d i u (inr j) = inr (n.found d ∙ or_right (contains nat_cmp found d) _ (beyond_in w next d (has-from_Contains next d ((r d).1 (subst (λ (x : ℕ). IsReader readers x d) (sym j) i))) u))
+    gone a d i u (inr j) = inr (reads d u (each d (subst (λ (x : ℕ). IsReader readers x d) (sym j) i)))
 
     known : (a d : ℕ) → IsReader readers a d → w d ≡ false → (is_one_of work a ≡ true) ⊎ (contains nat_cmp found d ≡ true) → (is_one_of after a ≡ true) ⊎ (contains nat_cmp more d ≡ true)
     known a d i u (inl j) = gone a d i u (in_last less cell a (ap (λ (xs : List ℕ). is_one_of xs a) (sym e) ∙ j))
@@ -101,7 +111,44 @@ beyond_step readers w cells found more work less after next enqueued cell e r q 
 
     first : (p : ℕ → Bool) → ((c : ℕ) → is_one_of cells c ≡ true → p c ≡ true) → GoesToReaders readers p → (c : ℕ) → (contains nat_cmp found c ≡ true) ⊎ (is_one_of (beyond w next) c ≡ true) → p c ≡ true
     first p i g c (inl j) = s.least p i g c j
-    first p i g c (inr j) = g cell c (s.least p i g cell here) ((r c).0 (Contains-from_has next c (in_beyond w next c j).0))
+    first p i g c (inr j) = g cell c (s.least p i g cell here) (only c (in_beyond w next c j).0)
+
+pub beyond_step : (readers : Bag) (w : ℕ → Bool) (cells : List ℕ) (found more : BTreeSet ℕ) (work less after next enqueued : List ℕ) (cell : ℕ) → work ≡ less ++ cell ∷ [] → AreReaders readers cell next → enqueued ≡ next →
+    AreEnqueued (beyond w enqueued) found more less after → IsSearchingBeyond readers w cells found work → IsSearchingBeyond readers w cells more after
+beyond_step readers w cells found more work less after next enqueued cell e r q m s =
+    told_step readers w cells found more work less after next enqueued cell [] e (λ d i. (r d).0 (Contains-from_has next d i)) (λ d i. inl (has-from_Contains next d ((r d).1 i))) (λ d i u. clash false i refl) q m s
+
+-- ---- the search, by what was told before
+
+abbrev pub IsAsking : Bag → (ℕ → Bool) → List ℕ → BTreeSet ℕ → List ℕ → Telling → Type 0
+IsAsking readers w cells found work s = IsSearchingBeyond readers w cells found work × (s.bag ≡ readers) × AreFound w found s.told
+
+pub asking_start : (readers : Bag) (w : ℕ → Bool) (cells : List ℕ) (none found : BTreeSet ℕ) (empty work : List ℕ) (s : Telling) → s ≡ telling readers [] → none.keys ≡ [] → empty ≡ [] → ((c : ℕ) → is_one_of cells c ≡ true → w c ≡ false) →
+    AreEnqueued cells none found empty work → IsAsking readers w cells found work s
+asking_start readers w cells none found empty work s k e f u n = (
+  beyond_start readers w cells none found empty work e f u n,
+  ap (λ (t : Telling). t.bag) k,
+  λ r h v. clash false (ap (λ (t : Telling). is_one_of t.told r) (sym k) ∙ h) refl,
+)
+
+only_readers : (readers : Bag) (old new : Telling) (cell : ℕ) (next : List ℕ) → Answers old new cell next → old.bag ≡ readers → (d : ℕ) → is_one_of next d ≡ true → IsReader readers cell d
+only_readers readers old new cell next a b d h = subst (λ (x : Bag). IsReader x cell d) b (a.only d h)
+
+pub asking_step : (readers : Bag) (w : ℕ → Bool) (cells : List ℕ) (found more : BTreeSet ℕ) (work less after next enqueued : List ℕ) (cell : ℕ) (old new : Telling) → work ≡ less ++ cell ∷ [] → Answers old new cell next → enqueued ≡ next →
+    AreEnqueued (beyond w enqueued) found more less after → IsAsking readers w cells found work old → IsAsking readers w cells more after new
+asking_step readers w cells found more work less after next enqueued cell old new e a q m s = (
+  told_step readers w cells found more work less after next enqueued cell old.told e (only_readers readers old new cell next a s.1)
+      (λ d i. a.all d (subst (λ (x : Bag). IsReader x cell d) (sym s.1) i)) s.2 q m s.0,
+  a.bag ∙ s.1,
+  λ r h u. are_found r u (a.told r h),
+)
+  where
+    n : AreEnqueued (beyond w next) found more less after
+    n = subst (λ (xs : List ℕ). AreEnqueued xs found more less after) (ap (beyond w) q) m
+
+    are_found : (r : ℕ) → w r ≡ false → (is_one_of old.told r ≡ true) ⊎ (is_one_of next r ≡ true) → contains nat_cmp more r ≡ true
+    are_found r u (inl h) = n.found r ∙ or_left (contains nat_cmp found r) _ (s.2 r h u)
+    are_found r u (inr h) = n.found r ∙ or_right (contains nat_cmp found r) _ (beyond_in w next r h u)
 
 pub beyond_end : (readers : Bag) (w : ℕ → Bool) (cells : List ℕ) (found : BTreeSet ℕ) (work : List ℕ) → work ≡ [] → IsSearchingBeyond readers w cells found work → IsConeBeyond readers w cells found
 beyond_end readers w cells found work e s = record {
@@ -116,13 +163,21 @@ beyond_end readers w cells found work e s = record {
     at a r (inr k) = k
 
 -- it ends
-pub beyond_ends : (readers : Bag) (w : ℕ → Bool) (found more : BTreeSet ℕ) (work less after next enqueued : List ℕ) (cell : ℕ) → work ≡ less ++ cell ∷ [] → AreReaders readers cell next → enqueued ≡ next → AreEnqueued (beyond w enqueued) found more less after →
-    length (missing more (all_readers readers)) + length after < length (missing found (all_readers readers)) + length work
-beyond_ends readers w found more work less after next enqueued cell e r q m =
+pub told_ends : (readers : Bag) (w : ℕ → Bool) (found more : BTreeSet ℕ) (work less after next enqueued : List ℕ) (cell : ℕ) → work ≡ less ++ cell ∷ [] → ((d : ℕ) → is_one_of next d ≡ true → IsReader readers cell d) → enqueued ≡ next →
+    AreEnqueued (beyond w enqueued) found more less after → length (missing more (all_readers readers)) + length after < length (missing found (all_readers readers)) + length work
+told_ends readers w found more work less after next enqueued cell e only q m =
     let n = subst (λ (xs : List ℕ). AreEnqueued xs found more less after) (ap (beyond w) q) m in
-    let f = n.fewer (all_readers readers) (λ c i. readers_there readers cell c ((r c).0 (Contains-from_has next c (in_beyond w next c i).0))) in
+    let f = n.fewer (all_readers readers) (λ c i. readers_there readers cell c (only c (in_beyond w next c i).0)) in
     let t : length work ≡ length less + 1 = ap (λ (xs : List ℕ). length xs) e ∙ length-append less (cell ∷ []) in
     omega (arith, f, t)
+
+pub asking_ends : (readers : Bag) (w : ℕ → Bool) (found more : BTreeSet ℕ) (work less after next enqueued : List ℕ) (cell : ℕ) (old new : Telling) → work ≡ less ++ cell ∷ [] → Answers old new cell next → old.bag ≡ readers → enqueued ≡ next →
+    AreEnqueued (beyond w enqueued) found more less after → length (missing more (all_readers readers)) + length after < length (missing found (all_readers readers)) + length work
+asking_ends readers w found more work less after next enqueued cell old new e a b q m = told_ends readers w found more work less after next enqueued cell e (only_readers readers old new cell next a b) q m
+
+pub beyond_ends : (readers : Bag) (w : ℕ → Bool) (found more : BTreeSet ℕ) (work less after next enqueued : List ℕ) (cell : ℕ) → work ≡ less ++ cell ∷ [] → AreReaders readers cell next → enqueued ≡ next → AreEnqueued (beyond w enqueued) found more less after →
+    length (missing more (all_readers readers)) + length after < length (missing found (all_readers readers)) + length work
+beyond_ends readers w found more work less after next enqueued cell e r q m = told_ends readers w found more work less after next enqueued cell e (λ d i. (r d).0 (Contains-from_has next d i)) q m
 
 -- ---- a search that stops nowhere is one where no cell is watched
 

@@ -59,6 +59,7 @@ pub use Rattle.wi_parser.specs.declared.content.Content.TheVariants.{Constant, F
 pub use Rattle.wi_ranges.proofs.Exact.{same_is, same_self}
 pub use Rattle.wi_ranges.specs.Bag.{Bag, HasOneLess, HasOneMore, IsRead, IsReader, count_of, is_same, pair_area, pair_for}
 pub use Rattle.wi_ranges.specs.Inner.Rising.{as_set}
+pub use Rattle.wi_ranges.specs.Inner.Telling.{Answers, Telling, telling}
 pub use Rattle.wi_ranges.specs.declared.pair.RangePair.{RangePair}
 pub use Rattle.wi_tiles.specs.Entries.{CellEntries, IsOrdered, get}
 pub use Rattle.wi_tiles.specs.Rooms.{HasRoomFor, HoldsTheSame}

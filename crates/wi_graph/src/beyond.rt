@@ -45,10 +45,11 @@ pub(crate) fn cone_beyond<W: Watch>(
         IsConeBeyond readers.now (W.watched watch.now) cells.now found) }
 {
     let mut found = RisingSet::new(alloc);
+    let mut search = readers.search();
     let mut work = Vec::new(alloc);
     enqueue(cells, &mut found, &mut work)?;
     'cells: while let Some(cell) = work.pop() {
-        let next = readers.readers_of(cell)?;
+        let next = search.readers_of(cell)?;
         enqueue_beyond(&next, watch, &mut found, &mut work)?;
     }
     Ok(found)
