@@ -1,5 +1,7 @@
 -- What one question after another spends.
-use Rattle.wi_engine.proofs.Words.{◌≡◌, ℕ, Bool, true, false, List, Result, Ok, Err, IsErr, is_ok, refl, sym, ◌∙◌, subst, arith, true≢false, Replacement, Sheet, Counts, Case, RestsOnKept, SpentOn, never_fall-same, never_fall-then, spent_none, spent_price, spent_then, spent_weaken, MemoState, IsMemoOf, WhereSpace, IsSameBeside, Saved, Spends, SpendsAtMost, rests_more}
+use Rattle.wi_engine.proofs.Words.{◌≡◌, ℕ, Bool, true, false, List, Option, Some, Result, Ok, Err, IsErr, is_ok, refl, sym, ◌∙◌, subst, arith, true≢false, AllocError, Value, Replacement, Sheet, Counts, Case, RestsOnKept, SpentOn, never_fall-same, never_fall-then, spent_none, spent_price, spent_then, spent_weaken, MemoState, IsMemoOf, WhereSpace, IsSameBeside, Saved, Spends, SpendsAtMost, ValuesCell, rests_more}
+use Rattle.wi_engine.specs.Inner.Plans.{TriesCell}
+use Rattle.wi_engine.specs.Inner.Spends.{ValuesAtMost}
 use Rattle.wi_engine.proofs.Places.{takes_none, takes_then, gives_up_none, gives_up_then}
 
 -- ---- of what is kept
@@ -114,3 +116,35 @@ at_most_weaken {s} {Has} {Less} {m} {old} {new} {a} {b} {done} e has g =
       on_kept = λ ks closed top whole space. h.on_kept ks closed (has ks top) whole space;
       saved = λ d ks closed top whole space. h.saved d ks closed (has ks top) whole space;
     }
+
+-- whatever was done, where memory runs out
+pub at_most_err : {X E : Type 0} {s : Sheet} {Has : List Case → Type 0} {old new : MemoState} {a b : Counts} {done : Bool} (r : Result X E) → IsErr r → SpendsAtMost s Has old new a b done → SpendsAtMost s Has old new a b (is_ok r)
+at_most_err (Ok x) e h = cc
+at_most_err (Err x) e h = record {
+  right = h.right;
+  same = h.same;
+  counts = h.counts;
+  places = h.places;
+  gives_up = h.gives_up;
+  at_most = h.at_most;
+  on_kept = λ ks closed top whole space. spent_weaken (λ d. absurd (true≢false (sym d))) (h.on_kept ks closed top whole space);
+  saved = λ d. absurd (true≢false (sym d));
+}
+
+-- ---- a cell that a question ends with
+
+-- valued as any cell is, from the same beginning
+pub values_from : {s : Sheet} {m old new : MemoState} {w : List Replacement} {c : ℕ} {a b e : Counts} {r : Result Value AllocError} → m ≡ old → a ≡ b → ValuesCell s m new w c a e r → ValuesAtMost s old new w c b e r
+values_from {s} {m} {old} {new} {w} {c} {a} {b} {e} {r} em ea h = subst (λ (x : MemoState). ValuesAtMost s x new w c b e r) em (subst (λ (x : Counts). ValuesAtMost s m new w c x e r) ea here)
+  where
+    here : ValuesAtMost s m new w c a e r
+    here = record { value = h.value; spends = spends_at_most h.spends; uncounted = h.uncounted; kept = h.kept }
+
+-- by a plan
+pub values_tried : {s : Sheet} {old new : MemoState} {w : List Replacement} {c : ℕ} {a b : Counts} {v : Value} → TriesCell s old new w c a b (Ok (Some v)) → ValuesAtMost s old new w c a b (Ok v)
+values_tried h = record { value = h.value; spends = h.spends; uncounted = h.uncounted; kept = λ anew. h.kept }
+
+-- and where memory ran out while it was tried
+pub values_lost : {s : Sheet} {old new : MemoState} {w : List Replacement} {c : ℕ} {a b : Counts} {q : Result (Option Value) AllocError} (r : Result Value AllocError) → IsErr r → TriesCell s old new w c a b q → ValuesAtMost s old new w c a b r
+values_lost (Ok v) i h = cc
+values_lost (Err x) i h = record { value = tt; spends = at_most_err {X = Value} (Err x) i h.spends; uncounted = h.uncounted; kept = tt }

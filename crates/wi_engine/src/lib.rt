@@ -26,6 +26,7 @@ mod scan;
 mod stack;
 mod together;
 mod walk;
+mod what_if;
 
 pub use memo::Memo;
 pub use placing::{PlacedCell, PlacedPlan};
@@ -35,3 +36,4 @@ pub use pool::Pool;
 pub use question::Question;
 pub use remembered::Remembered;
 pub use walk::{reached, reached_from};
+pub use what_if::what_if_alone;

@@ -1,6 +1,6 @@
 //! The value of a cell where some are replaced, by the formulas between them one after another.
 
-ghost use Rattle.std.specs.Prelude.{◌≡◌, ◌≤◌, true, false, map, None, Ok, IfOk, IfSome, OnErr, is_none, is_ok};
+ghost use Rattle.std.specs.Prelude.{◌≡◌, ◌<◌, ◌≤◌, ◌++◌, ◌∷◌, [], true, false, map, vec_len, vec_capacity, None, Ok, IfOk, IfSome, OnOk, OnErr, is_none, is_ok};
 ghost use Rattle.std.specs.Bool.{OnTrue};
 ghost use Rattle.wi_parser.specs.Sheet.{Sheet, content_of, has_formula, put_all};
 ghost use Rattle.wi_functions.specs.Meaning as formulas;
@@ -25,7 +25,7 @@ use crate::memo::Memo;
 use crate::placing::{PlacedCell, PlacedPlan};
 use crate::question::Question;
 use std::alloc::{AllocError, Global};
-use wi_functions::{Meter, Outcome, Placed, evaluate, evaluate_placed};
+use wi_functions::{Meter, Outcome, Placed, evaluate, evaluate_placed, push_evaluated};
 use wi_store::Store;
 use wi_values::{Address, Value};
 use wi_worlds::World;
@@ -89,7 +89,7 @@ impl<M: Memo + Drop> Question<M> {
     }
 
     /// The value of a plan's root, after those of its cells. None where one that is to be given isn't there.
-    fn follow(
+    pub(crate) fn follow(
         &mut self,
         store: &Store,
         world: &World,
@@ -114,6 +114,7 @@ impl<M: Memo + Drop> Question<M> {
 
     /// As `follow`, by formulas over places, where the values are there that it is to be given: each takes an
     /// evaluation that looks no cell up.
+    #[inline(never)]
     fn follow_placed(
         &mut self,
         store: &Store,
@@ -139,44 +140,70 @@ impl<M: Memo + Drop> Question<M> {
         };
         found.reserve(placed.cells.len())?;
         for cell in &placed.cells {
-            let value = self.cell_over(store, world, cell, &found)?;
-            found.push_reserved(value);
+            self.push_cell(store, world, cell, &mut found)?;
         }
         let value = placed_value(alloc, &placed.root, &found, &mut self.meter)?;
         Ok(Some(value))
     }
 
-    /// The value of a plan's cell over those before it: one that is to be given is there.
+    /// Appends the value of a plan's cell to those before it: one that is to be given is there.
     #[inline(always)]
-    fn cell_over(
+    fn push_cell(
         &mut self,
         store: &Store,
         world: &World,
         cell: &PlacedCell,
-        found: &[Value],
-    ) -> Result<Value, AllocError>
+        found: &mut Vec<Value>,
+    ) -> Result<(), AllocError>
         requires cell { MayBeValued store.now.sheet (M.state self.old.memo) world.now
             cell.now.planned.at }
         requires given { cell.now.formula ≡ None
             → NeedsNoEvaluation store.now.sheet (M.state self.old.memo) world.now
             cell.now.planned.at }
         requires ready { IfSome cell.now.formula (λ p. formulas.zero_for_empty
-            (placed_value p found.now)
+            (placed_value p found.old.items)
             ≡ values.cell_value (put_all store.now.sheet world.now) cell.now.planned.at) }
-        ensures value { IfOk result (λ v.
-            v ≡ values.cell_value (put_all store.now.sheet world.now) cell.now.planned.at) }
+        requires room { vec_len found.old < vec_capacity found.old }
+        ensures value { OnOk result (found.new.items ≡ found.old.items
+            ++ values.cell_value (put_all store.now.sheet world.now) cell.now.planned.at ∷ []) }
+        ensures room { vec_capacity found.new ≡ vec_capacity found.old }
         ensures same { M.state self.new.memo ≡ M.state self.old.memo }
-        ensures counts { IfOk result (λ _.
-            CountsCell (is_none cell.now.formula) self.old.meter self.new.meter) }
+        ensures counts { OnOk result
+            (CountsCell (is_none cell.now.formula) self.old.meter self.new.meter) }
         ensures err { OnErr result (self.new.meter ≡ self.old.meter) }
     {
         let alloc = self.pool.allocator();
         match &cell.formula {
-            Some(formula) => placed_value(alloc, formula, found, &mut self.meter),
-            None => match value_now(alloc, store, world, cell.planned.at, &mut self.memo)? {
-                Step::Ready(value) => Ok(value),
-                Step::First(_) => unreachable!(),
-            },
+            Some(formula) => push_placed(alloc, formula, found, &mut self.meter),
+            None => self.push_given(store, world, cell.planned.at, found),
+        }
+    }
+
+    /// Appends the value of a cell that is to be given, which is there.
+    #[inline(never)]
+    fn push_given(
+        &mut self,
+        store: &Store,
+        world: &World,
+        at: Address,
+        found: &mut Vec<Value>,
+    ) -> Result<(), AllocError>
+        requires cell { MayBeValued store.now.sheet (M.state self.old.memo) world.now at }
+        requires given { NeedsNoEvaluation store.now.sheet (M.state self.old.memo) world.now at }
+        requires room { vec_len found.old < vec_capacity found.old }
+        ensures value { OnOk result (found.new.items ≡ found.old.items
+            ++ values.cell_value (put_all store.now.sheet world.now) at ∷ []) }
+        ensures room { vec_capacity found.new ≡ vec_capacity found.old }
+        ensures same { M.state self.new.memo ≡ M.state self.old.memo }
+        ensures counts { self.new.meter ≡ self.old.meter }
+    {
+        let alloc = self.pool.allocator();
+        match value_now(alloc, store, world, at, &mut self.memo)? {
+            Step::Ready(value) => {
+                found.push_reserved(value);
+                Ok(())
+            }
+            Step::First(_) => unreachable!(),
         }
     }
 
@@ -305,7 +332,6 @@ fn input_values(alloc: Global, world: &World, plan: &Plan) -> Result<Option<Vec<
 }
 
 /// The value of a placed formula over values. It is counted; where memory runs out nothing is.
-#[inline(always)]
 fn placed_value(
     alloc: Global,
     formula: &Placed,
@@ -321,6 +347,27 @@ fn placed_value(
     let _ = meter.evaluations();
     let _ = meter.restarts();
     evaluate_placed(alloc, formula, found, meter)
+}
+
+/// Appends the value of a placed formula over values to them. It is counted; where memory runs out nothing is.
+#[inline(always)]
+fn push_placed(
+    alloc: Global,
+    formula: &Placed,
+    found: &mut Vec<Value>,
+    meter: &mut Meter,
+) -> Result<(), AllocError>
+    requires { vec_len found.old < vec_capacity found.old }
+    ensures value { OnOk result (found.new.items ≡ found.old.items
+        ++ formulas.zero_for_empty (placed_value formula.now found.old.items) ∷ []) }
+    ensures room { vec_capacity found.new ≡ vec_capacity found.old }
+    ensures counts { OnOk result (CountsOne meter.old meter.new) }
+    ensures err { OnErr result (meter.new ≡ meter.old) }
+{
+    // Each count is at most the greatest number, so one more is no less.
+    let _ = meter.evaluations();
+    let _ = meter.restarts();
+    push_evaluated(alloc, formula, found, meter)
 }
 
 /// The value of a formula that rests on what was found. It is counted; where memory runs out nothing is.

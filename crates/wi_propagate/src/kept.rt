@@ -26,6 +26,7 @@ use crate::carried::{Carried, carry_over_edit, forget_carried, take_carried};
 use crate::generations::Generations;
 use crate::keeping::Keeping;
 use crate::last_worlds::LastWorlds;
+use crate::planned_cell::planned_cell;
 use crate::plans::Plans;
 use crate::standing::{Standing, standing_value};
 use crate::table_entry::planned_entry;
@@ -201,7 +202,14 @@ impl KeptCalculator {
             meter: self.meter,
             pool: mem::replace(&mut self.pool, Pool::new(self.alloc)),
         };
-        let result = question.formula_value(&self.store, &world, at, formula);
+        let result = planned_cell(
+            &mut question,
+            &self.store,
+            &world,
+            at,
+            formula,
+            &mut self.plans,
+        );
         self.meter = question.meter;
         self.pool = question.pool;
         self.carried = Some(question.memo.into_carried());

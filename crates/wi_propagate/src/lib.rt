@@ -12,6 +12,7 @@ mod last_worlds;
 pub mod laws;
 mod occupied;
 mod plain;
+mod planned_cell;
 mod plans;
 mod recurring;
 mod standing;

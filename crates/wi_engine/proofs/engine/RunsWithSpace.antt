@@ -234,7 +234,7 @@ module _ {s : Sheet} {m : MemoState} {w : List Replacement} {a : ℕ} {k : Key} 
   unvalued_in : (ks : List Case) → HasCase s w a ks → Contains ks (case_at k)
   unvalued_in ks h = subst (λ (j : Case). Contains ks j) here (h u.formula)
 
-  not_easy : IsMemoOf s m → NeedsNoEvaluation s m w a → ⊥
+  pub not_easy : IsMemoOf s m → NeedsNoEvaluation s m w a → ⊥
   not_easy h (inl j) = let z = u.formula in cc
   not_easy h (inr j) =
       let at : (f : Table) → f k.cell k.world ≡ false → f a (reaching s a w) ≡ false = λ f e. ap (λ (i : Case). f i.0 i.1) here ∙ e in
@@ -245,7 +245,7 @@ module _ {s : Sheet} {m : MemoState} {w : List Replacement} {a : ℕ} {k : Key} 
       let before : WhereSpace s (λ ks. Contains ks (case_at k)) m (λ ks. l.kept k.cell k.world ≡ true) = rw e at h in
       inr (ap (λ (j : Case). l.kept j.0 j.1) here ∙ before ks closed (unvalued_in ks top) whole space)
 
-  unvalued_kept : (n l : MemoState) → n ≡ m → (1 ≤ n.capacity → l.kept k.cell k.world ≡ true) → 1 ≤ m.capacity → l.kept a (reaching s a w) ≡ true
+  pub unvalued_kept : (n l : MemoState) → n ≡ m → (1 ≤ n.capacity → l.kept k.cell k.world ≡ true) → 1 ≤ m.capacity → l.kept a (reaching s a w) ≡ true
   unvalued_kept n l e h r = ap (λ (j : Case). l.kept j.0 j.1) here ∙ h (let z = ap (λ (x : MemoState). x.capacity) e in omega (arith, r, z))
 
   -- so a run for the key is a question for the cell

@@ -185,7 +185,7 @@ follows_err (Err x) e rises most = record { value = tt; none = λ i. let z = i i
 pub follows_nothing : {s : Sheet} {w : List Replacement} {root : ℕ} (now : Counts) → Follows s w root now now (Ok None)
 follows_nothing now = record { value = tt; none = λ i. refl; counts = never_fall-same now; one = tt; at_most = λ ks closed top. spent_nothing now _ }
 
-more_counted : (a b c : ℕ) → a ≤ b → c ≡ one_more b → (a + 1 ≤ c) ⊎ (2 ^ 64 - 1 ≤ c)
+pub more_counted : (a b c : ℕ) → a ≤ b → c ≡ one_more b → (a + 1 ≤ c) ⊎ (2 ^ 64 - 1 ≤ c)
 more_counted a b c l e = at (cases_lt b (2 ^ 64 - 1))
   where
     at : (b < 2 ^ 64 - 1) ⊎ (2 ^ 64 - 1 ≤ b) → (a + 1 ≤ c) ⊎ (2 ^ 64 - 1 ≤ c)

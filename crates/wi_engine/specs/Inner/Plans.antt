@@ -1,24 +1,28 @@
 -- In what order the values of cells are found before that of a cell, the root, which rests on them where some cells,
 -- the inputs, are replaced.
-use Rattle.std.specs.Prelude.{◌≡◌, ◌==◌, ◌&&◌, ◌||◌, ℕ, ◌+◌, ◌-◌, ◌^◌, ◌≤◌, Bool, not, true, false, List, [], ◌∷◌, ◌++◌, map, All, Option, Some, None, is_some, Result, Ok, IfOk, IfSome, ◌⊎◌, Contains}
+use Rattle.std.specs.Prelude.{◌≡◌, ◌==◌, ◌&&◌, ◌||◌, ℕ, ◌+◌, ◌-◌, ◌^◌, ◌≤◌, Bool, not, true, false, List, [], ◌∷◌, ◌++◌, map, All, Option, Some, None, is_some, Result, Ok, IfOk, IfSome, is_ok, ◌⊎◌, Contains}
 use Rattle.std.specs.List.{list_any}
 use Rattle.std.specs.declared.alloc.AllocError.{AllocError}
 use Rattle.wi_values.specs.Address.{is_one_of}
 use Rattle.wi_values.specs.declared.value.Value.{Value}
 use Rattle.wi_values.specs.declared.replacement.Replacement.{Replacement}
+use Rattle.wi_values.specs.Replacements.{IsInOrder}
 use Rattle.wi_parser.specs.Leaves.{Leaf, what_if_leaf}
-use Rattle.wi_parser.specs.Tree.{Tree}
+use Rattle.wi_parser.specs.Tree.{Tree, what_if}
+use Rattle.wi_parser.specs.declared.expr.Reference.{Reference}
 use Rattle.wi_parser.specs.declared.content.Content.TheVariants.{Formula}
 use Rattle.wi_parser.specs.Sheet.{Sheet, content_of, has_formula, put_all}
 use Rattle.wi_parser.specs.Reads.{content_reads}
+use Rattle.wi_arguments.specs.Assignment.{addresses}
 use Rattle.wi_functions.specs.Counts.{Counts, one_more}
 use Rattle.wi_sheet.specs.CellValue.{cell_value, what_if_value}
-use Rattle.wi_sheet.specs.Demand.{Case, case_of, reaching, what_ifs_of}
-use Rattle.wi_sheet.specs.Inner.Spending.{IsClosed, NeverFall, plus, price}
+use Rattle.wi_sheet.specs.Demand.{Case, case_of, reaching, what_ifs_of, with_what_if}
+use Rattle.wi_sheet.specs.Inner.Spending.{HasCase, IsClosed, NeverFall, plus, price}
 use Rattle.wi_engine.specs.Inner.MemoState.{IsMemoOf, MemoState}
 use Rattle.wi_engine.specs.Inner.Findings.{AreAllRight, found_value, found_what_ifs}
 use Rattle.wi_engine.specs.Inner.Frames.{IsDemanded, MayBeRead, content_reads_here}
 use Rattle.wi_engine.specs.Inner.Saving.{NeedsNoEvaluation}
+use Rattle.wi_engine.specs.Inner.Spends.{SpendsAtMost}
 use Rattle.wi_engine.specs.Inner.Placing.{IsPlacedPlan}
 use Rattle.wi_engine.specs.declared.findings.Findings.{Findings}
 use Rattle.wi_engine.specs.declared.plan.Plan.{Plan}
@@ -119,6 +123,35 @@ pub record Follows (s : Sheet) (w : List Replacement) (root : ℕ) (before after
 pub record IsUnkept (s : Sheet) (m : MemoState) (w : List Replacement) (c : ℕ) : Type 0 where
   pub formula : has_formula (content_of (put_all s w) c) ≡ true
   pub none : m.kept c (reaching s c w) ≡ false
+
+-- ---- a cell whose formula is a what-if
+
+-- The formula of a cell under replacements is a what-if of the root, and these are the replacements with those of the
+-- what-if put in.
+pub record IsWhatIfOf (s : Sheet) (w : List Replacement) (c : ℕ) (inside : List Replacement) (root : ℕ) : Type 0 where
+  pub order : IsInOrder w
+  pub cell : Reference
+  pub pairs : List (Reference × Reference)
+  pub stands : content_of (put_all s w) c ≡ Some (Formula (what_if cell pairs))
+  pub is_root : cell.at ≡ root
+  pub is_inside : inside ≡ with_what_if s w (map addresses pairs)
+
+-- What is so where the value of a root was remembered or found by a plan, as far as memory sufficed. No more was counted
+-- than the cases cost that the root demands.
+pub record FindsRoot (s : Sheet) (w : List Replacement) (root : ℕ) (before after : Counts) (r : Result (Option Value) AllocError) : Type 0 where
+  pub value : IfOk r (λ o. IfSome o (λ v. v ≡ cell_value (put_all s w) root))
+  pub none : r ≡ Ok None → after ≡ before
+  pub counts : NeverFall before after
+  pub at_most : (ks : List Case) → IsClosed s ks → HasCase s w root ks → NeverFall after (plus before (price s ks))
+
+-- What is so where a question that ends with a cell has tried to value it by a plan: where it answers none, nothing was
+-- done.
+pub record TriesCell (s : Sheet) (old new : MemoState) (w : List Replacement) (a : ℕ) (before after : Counts) (r : Result (Option Value) AllocError) : Type 0 where
+  pub value : IfOk r (λ o. IfSome o (λ v. v ≡ cell_value (put_all s w) a))
+  pub none : r ≡ Ok None → (new ≡ old) × (after ≡ before)
+  pub spends : SpendsAtMost s (HasCase s w a) old new before after (is_ok r)
+  pub uncounted : NeedsNoEvaluation s old w a → after ≡ before
+  pub kept : IfOk r (λ o. IfSome o (λ v. 1 ≤ old.capacity → new.kept a (reaching s a w) ≡ true))
 
 -- ---- how a plan is made
 

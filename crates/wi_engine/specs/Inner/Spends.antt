@@ -71,3 +71,10 @@ pub record ValuesCell (s : Sheet) (old new : MemoState) (w : List Replacement) (
   -- is settled: which list that is makes no difference, so it is left out.
   pub kept : OnOk r (IsValuedAnew s old w a → 1 ≤ old.capacity → new.kept a (reaching s a w) ≡ true)
   pub settled : OnOk r (WhereSpace s (HasCase s w a) old (λ ks. IsSettled s new.kept w a))
+
+-- As `ValuesCell`, of a question that ends with that: of what it evaluates it needn't remember all.
+pub record ValuesAtMost (s : Sheet) (old new : MemoState) (w : List Replacement) (a : ℕ) (before after : Counts) (r : Result Value AllocError) : Type 0 where
+  pub value : IfOk r (λ v. v ≡ cell_value (put_all s w) a)
+  pub spends : SpendsAtMost s (HasCase s w a) old new before after (is_ok r)
+  pub uncounted : NeedsNoEvaluation s old w a → after ≡ before
+  pub kept : OnOk r (IsValuedAnew s old w a → 1 ≤ old.capacity → new.kept a (reaching s a w) ≡ true)

@@ -18,8 +18,8 @@ loop-cell-init g c = record {
   room = grind (arith, common_steps);
 }
 
-pub cell_over-requires-clause-cell : goal.cell_over-requires-clause-cell
-cell_over-requires-clause-cell g c =
+pub push_cell-requires-clause-cell : goal.push_cell-requires-clause-cell
+push_cell-requires-clause-cell g c =
     let s = c.args.store.now.sheet in
     let m = g.M.Memo.state c.args.self.now.memo in
     let w = c.args.world.now in
@@ -34,8 +34,8 @@ cell_over-requires-clause-cell g c =
     let may : MayBeValued s m w x.planned.at = record { memo = c.requires.plan.memo; read = need.readable; formula = need.formula } in
     subst (λ (n : MemoState). MayBeValued s n w x.planned.at) (sym c.loop-cell.invariant.same) may
 
-pub cell_over-requires-clause-given : goal.cell_over-requires-clause-given
-cell_over-requires-clause-given g c =
+pub push_cell-requires-clause-given : goal.push_cell-requires-clause-given
+push_cell-requires-clause-given g c =
     let s = c.args.store.now.sheet in
     let m = g.M.Memo.state c.args.self.now.memo in
     let w = c.args.world.now in
@@ -49,8 +49,8 @@ cell_over-requires-clause-given g c =
     let placed = placed_there seen same i x less is s c.args.plan.now.inputs.items c.requires.placed.cells in
     λ none. subst (λ (n : MemoState). NeedsNoEvaluation s n w x.planned.at) (sym c.loop-cell.invariant.same) (given_there s m w (c.args.plan.now.inputs.items ++ cells_placed (take i c.deref-cell-items.result.now)) x placed one none)
 
-pub cell_over-requires-clause-ready : goal.cell_over-requires-clause-ready
-cell_over-requires-clause-ready g c =
+pub push_cell-requires-clause-ready : goal.push_cell-requires-clause-ready
+push_cell-requires-clause-ready g c =
     let s = c.args.store.now.sheet in
     let m = g.M.Memo.state c.args.self.now.memo in
     let w = c.args.world.now in
@@ -69,7 +69,7 @@ cell_over-requires-clause-ready g c =
     let stays = stays_there s w x.planned.at (ap (λ (xs : List ℕ). is_one_of xs x.planned.at) c.requires.plan.inputs ∙ may.kept) in
     let fits = all_fit s w c.args.plan.now.inputs.items (cells_placed (take i c.deref-cell-items.result.now)) c.loop-cell.found.items c.requires.plan.inputs c.loop-cell.invariant.values in
     let ready = formula_ready s w (c.args.plan.now.inputs.items ++ cells_placed (take i c.deref-cell-items.result.now)) c.loop-cell.found.items x (placed_there seen same i x less is s c.args.plan.now.inputs.items c.requires.placed.cells) fits need.readable.open_cell stays in
-    rw c.deref.ensures.value ready
+    ready
 
 -- ---- with a cell more
 
@@ -93,10 +93,10 @@ loop-cell-preserved g c =
     let more = one_more_item whole i x.planned fewer there in
     let placed = placed_there seen same i x less is s c.args.plan.now.inputs.items c.requires.placed.cells in
     record {
-      same = c.in_ok-value.ensures.same ∙ c.loop-cell.invariant.same;
-      counted = subst (λ (ps : List Planned). IsCounted s w c.args.plan.now.root ps c.args.self.now.meter c.cell_over.new.self.meter) (sym more)
-          (counted_more c.loop-cell.invariant.counted may need (rw placed.given at c.in_ok-value.ensures.counts));
-      values = one_more_value seen same i x less is (cell_value (put_all s w)) c.args.plan.now.inputs.items c.loop-cell.found.items c.push_reserved.new.self.items c.in_ok-value.value c.loop-cell.invariant.values c.push_reserved.ensures.items c.in_ok-value.ensures.value;
+      same = c.push_cell.ensures.same ∙ c.loop-cell.invariant.same;
+      counted = subst (λ (ps : List Planned). IsCounted s w c.args.plan.now.root ps c.args.self.now.meter c.push_cell.new.self.meter) (sym more)
+          (counted_more c.loop-cell.invariant.counted may need (rw placed.given at c.in_ok-push_cell.ensures.counts));
+      values = one_more_value seen same i x less is (cell_value (put_all s w)) c.args.plan.now.inputs.items c.loop-cell.found.items c.push_cell.new.found.items _ c.loop-cell.invariant.values c.in_ok-push_cell.ensures.value refl;
       room = grind (arith, common_steps);
     }
 
@@ -116,18 +116,18 @@ returns-clause-follows g c =
     let fits = all_fit s w c.args.plan.now.inputs.items (cells_placed (take c.loop-cell.cell-index items)) c.loop-cell.found.items c.requires.plan.inputs c.loop-cell.invariant.values in
     let formula = subst (λ (cs : List PlacedCell). IsPlacedFormula s (c.args.plan.now.inputs.items ++ cells_placed cs) root c.args.placed.now.root) (sym (before ∙ c.deref-cell-items.ensures.value)) c.requires.placed.formula in
     let value = formula_gives s w (c.args.plan.now.inputs.items ++ cells_placed (take c.loop-cell.cell-index items)) c.loop-cell.found.items root c.args.placed.now.root fits c.requires.plan.read.open_cell (stays_formula s w root c.requires.formula) formula in
-    follows_root i (root_apart c.requires.plan.plan.cells) c.in_ok-value-2.ensures.counts (rw c.deref-2.ensures.value at c.in_ok-value-2.ensures.value ∙ value)
+    follows_root i (root_apart c.requires.plan.plan.cells) c.in_ok-value.ensures.counts (rw c.deref.ensures.value at c.in_ok-value.ensures.value ∙ value)
 
 -- ---- where memory runs out
+
+pub returns-in_err-push_cell-clause-follows : goal.returns-in_err-push_cell-clause-follows
+returns-in_err-push_cell-clause-follows g c =
+    let i = c.loop-cell.invariant.counted in
+    let e = c.in_err-push_cell.ensures.err in
+    follows_err c.from_residual-in_err-push_cell.result c.from_residual-in_err-push_cell.ensures.0 (rw e i.counts) (λ ks closed top. rw e (counted_at_most i ks closed top))
 
 pub returns-in_err-value-clause-follows : goal.returns-in_err-value-clause-follows
 returns-in_err-value-clause-follows g c =
     let i = c.loop-cell.invariant.counted in
     let e = c.in_err-value.ensures.err in
     follows_err c.from_residual-in_err-value.result c.from_residual-in_err-value.ensures.0 (rw e i.counts) (λ ks closed top. rw e (counted_at_most i ks closed top))
-
-pub returns-in_err-value-2-clause-follows : goal.returns-in_err-value-2-clause-follows
-returns-in_err-value-2-clause-follows g c =
-    let i = c.loop-cell.invariant.counted in
-    let e = c.in_err-value-2.ensures.err in
-    follows_err c.from_residual-in_err-value-2.result c.from_residual-in_err-value-2.ensures.0 (rw e i.counts) (λ ks closed top. rw e (counted_at_most i ks closed top))

@@ -1,4 +1,4 @@
-use Rattle.wi_propagate.proofs.Words.{Some, spends_at_most, is_ok, ◌≡◌, ◌∙◌, inl, inr, IfOk, OnOk, List, false, true, refl, ap, sym, subst, IfOk-weaker, Replacement, content_of, has_formula, put_all, circular, shown, case_of, reaching, demanded, HasCase, demands_itself, different_closed, shown_circular, shown_value, KeptSheet, generation_in, IsAtHand, is_kept, flushed, stamped_in, Owes}
+use Rattle.wi_propagate.proofs.Words.{Some, is_ok, ◌≡◌, ◌∙◌, inl, inr, IfOk, OnOk, List, false, true, refl, ap, sym, subst, IfOk-weaker, Replacement, content_of, has_formula, put_all, circular, shown, case_of, reaching, demanded, HasCase, demands_itself, different_closed, shown_circular, shown_value, KeptSheet, generation_in, IsAtHand, is_kept, flushed, stamped_in, Owes}
 use Rattle.wi_propagate.proofs.StampSteps.{all_stamped}
 use Rattle.wi_propagate.proofs.FlushingSteps.{dirty_over}
 use Rattle.wi_propagate.proofs.Questions.{but_plans, with_plans, begins, begun_right, may_be_read, asked_kept, at_hand_is, owes_none, owes_flushed, owes_spent, flushed_view, settled_right, holds_asked, holds_settled}
@@ -38,8 +38,8 @@ returns-in-Value-clause-kept c =
 
 -- ---- what a formula gives
 
-pub formula_value-result-requires-clause-formula : goal.formula_value-result-requires-clause-formula
-formula_value-result-requires-clause-formula c =
+pub planned_cell-result-requires-clause-formula : goal.planned_cell-result-requires-clause-formula
+planned_cell-result-requires-clause-formula c =
     let there = rw c.in-Formula.is at c.in_ok-value.ensures in
     ap (λ (p : List Replacement). content_of (put_all c.self.inside.store.sheet p) c.args.at) c.in_ok-world.ensures ∙ there
 
@@ -47,8 +47,8 @@ pub new-memo-requires-clause-right : goal.new-memo-requires-clause-right
 new-memo-requires-clause-right c =
     begun_right c.self.inside.store (flushed c.self.inside.store.sheet c.flush.new.self.edited_at) c.self.inside.carried c.self.inside.meter _ c.take_carried-carried.ensures.values (settled_right {s = c.self.inside.store} c.in_ok-flush.ensures.edited_at c.self.inside.carried c.self.inside.meter c.self.invariant.3)
 
-pub formula_value-result-requires-clause-read : goal.formula_value-result-requires-clause-read
-formula_value-result-requires-clause-read c =
+pub planned_cell-result-requires-clause-read : goal.planned_cell-result-requires-clause-read
+planned_cell-result-requires-clause-read c =
     let i = c.self.inside in
     let o : circular i.store.sheet c.args.at ≡ false = sym (c.is_circular.ensures i.store.sheet c.self.invariant.1) ∙ c.if-is_circular.false in
     let q = begins i.store (flushed i.store.sheet c.flush.new.self.edited_at) i.carried i.meter _ c.new-memo.result c.take_carried-carried.ensures.values c.new-memo.ensures.value c.new-memo.ensures.placed in
@@ -57,18 +57,18 @@ formula_value-result-requires-clause-read c =
 pub invariant_of-self-2 : goal.invariant_of-self-2
 invariant_of-self-2 c =
     let i = c.self.inside in
-    let e = c.formula_value-result.ensures in
-    with_plans (Some c.into_carried.result) i.graph i.store c.flush.new.self c.formula_value-result.new.self.meter i.plans (holds_asked i.carried i.graph i.store c.flush.new.self i.meter c.formula_value-result.new.self.meter c.new-memo.result c.formula_value-result.new.self.memo c.into_carried.result
+    let e = c.planned_cell-result.ensures.values in
+    with_plans (Some c.into_carried.result) i.graph i.store c.flush.new.self c.planned_cell-result.new.question.meter c.planned_cell-result.new.plans (holds_asked i.carried i.graph i.store c.flush.new.self i.meter c.planned_cell-result.new.question.meter c.new-memo.result c.planned_cell-result.new.question.memo c.into_carried.result
     (begins i.store (flushed i.store.sheet c.flush.new.self.edited_at) i.carried i.meter _ c.new-memo.result c.take_carried-carried.ensures.values c.new-memo.ensures.value c.new-memo.ensures.placed)
     e.spends.same c.into_carried.ensures.kept e.spends.right.sheet c.into_carried.ensures.right c.into_carried.ensures.cones
-    (holds_settled i.carried i.graph i.store i.generations c.flush.new.self i.meter c.in_ok-flush.ensures.edited_at (c.in_ok-flush.ensures.dirty i.store.sheet c.self.invariant.1) (but_plans i.carried i.graph i.store i.generations i.meter i.plans c.self.invariant))) c.self.invariant.6
+    (holds_settled i.carried i.graph i.store i.generations c.flush.new.self i.meter c.in_ok-flush.ensures.edited_at (c.in_ok-flush.ensures.dirty i.store.sheet c.self.invariant.1) (but_plans i.carried i.graph i.store i.generations i.meter i.plans c.self.invariant))) c.planned_cell-result.ensures.plans
 
 pub returns-clause-value : goal.returns-clause-value
 returns-clause-value c =
     let i = c.self.inside in
     let o : circular i.store.sheet c.args.at ≡ false = sym (c.is_circular.ensures i.store.sheet c.self.invariant.1) ∙ c.if-is_circular.false in
-    subst (λ (x : KeptSheet). IfOk c.formula_value-result.result (λ v. v ≡ shown x.stored.sheet c.args.replacements.now c.args.at)) c.self.view_is
-    (IfOk-weaker c.formula_value-result.result _ _ (λ v e. shown_value i.store.sheet c.in_ok-world.world c.args.replacements.now c.args.at v o c.in_ok-world.ensures e) c.formula_value-result.ensures.value)
+    subst (λ (x : KeptSheet). IfOk c.planned_cell-result.result (λ v. v ≡ shown x.stored.sheet c.args.replacements.now c.args.at)) c.self.view_is
+    (IfOk-weaker c.planned_cell-result.result _ _ (λ v e. shown_value i.store.sheet c.in_ok-world.world c.args.replacements.now c.args.at v o c.in_ok-world.ensures e) c.planned_cell-result.ensures.values.value)
 
 pub returns-clause-easy : goal.returns-clause-easy
 returns-clause-easy c =
@@ -76,8 +76,8 @@ returns-clause-easy c =
     let view = flushed_view {s = i.store} c.in_ok-flush.ensures.edited_at i.carried i.meter c.args.self.now c.self.view_is in
     let o : circular i.store.sheet c.args.at ≡ false = sym (c.is_circular.ensures i.store.sheet c.self.invariant.1) ∙ c.if-is_circular.false in
     let q = begins i.store (flushed i.store.sheet c.flush.new.self.edited_at) i.carried i.meter _ c.new-memo.result c.take_carried-carried.ensures.values c.new-memo.ensures.value c.new-memo.ensures.placed in
-    subst (λ (x : KeptSheet). IsAtHand x c.args.replacements.now c.args.at → c.formula_value-result.new.self.meter ≡ x.counts) view
-    (λ h. c.formula_value-result.ensures.uncounted (at_hand_is q c.in_ok-world.world c.args.replacements.now c.args.at o c.in_ok-world.ensures h))
+    subst (λ (x : KeptSheet). IsAtHand x c.args.replacements.now c.args.at → c.planned_cell-result.new.question.meter ≡ x.counts) view
+    (λ h. c.planned_cell-result.ensures.values.uncounted (at_hand_is q c.in_ok-world.world c.args.replacements.now c.args.at o c.in_ok-world.ensures h))
 
 pub returns-clause-kept : goal.returns-clause-kept
 returns-clause-kept c =
@@ -85,10 +85,10 @@ returns-clause-kept c =
     let view = flushed_view {s = i.store} c.in_ok-flush.ensures.edited_at i.carried i.meter c.args.self.now c.self.view_is in
     let o : circular i.store.sheet c.args.at ≡ false = sym (c.is_circular.ensures i.store.sheet c.self.invariant.1) ∙ c.if-is_circular.false in
     let q = begins i.store (flushed i.store.sheet c.flush.new.self.edited_at) i.carried i.meter _ c.new-memo.result c.take_carried-carried.ensures.values c.new-memo.ensures.value c.new-memo.ensures.placed in
-    let new : KeptSheet = record { stored = i.store; generations = flushed i.store.sheet c.flush.new.self.edited_at; values = c.into_carried.result.value.kept; counts = c.formula_value-result.new.self.meter } in
-    let e = c.formula_value-result.ensures in
-    subst (λ (x : KeptSheet). OnOk c.formula_value-result.result ((IsAtHand x c.args.replacements.now c.args.at → ⊥) → is_kept new c.args.at (reaching x.stored.sheet c.args.at c.args.replacements.now) ≡ true)) view
-    (IfOk-weaker c.formula_value-result.result _ _ (λ v h. asked_kept q c.in_ok-world.world c.args.replacements.now c.args.at o c.in_ok-world.ensures c.formula_value-result.new.self.memo c.into_carried.result.value.kept c.formula_value-result.new.self.meter
+    let new : KeptSheet = record { stored = i.store; generations = flushed i.store.sheet c.flush.new.self.edited_at; values = c.into_carried.result.value.kept; counts = c.planned_cell-result.new.question.meter } in
+    let e = c.planned_cell-result.ensures.values in
+    subst (λ (x : KeptSheet). OnOk c.planned_cell-result.result ((IsAtHand x c.args.replacements.now c.args.at → ⊥) → is_kept new c.args.at (reaching x.stored.sheet c.args.at c.args.replacements.now) ≡ true)) view
+    (IfOk-weaker c.planned_cell-result.result _ _ (λ v h. asked_kept q c.in_ok-world.world c.args.replacements.now c.args.at o c.in_ok-world.ensures c.planned_cell-result.new.question.memo c.into_carried.result.value.kept c.planned_cell-result.new.question.meter
     e.spends.same c.into_carried.ensures.kept c.self.invariant.3.space h) e.kept)
 
 pub new-memo-requires-clause-cones : goal.new-memo-requires-clause-cones
@@ -103,8 +103,8 @@ returns-in_err-value-clause-easy c = λ h. refl
 pub returns-in_err-world-clause-easy : goal.returns-in_err-world-clause-easy
 returns-in_err-world-clause-easy c = λ h. refl
 
-pub formula_value-result-requires-clause-memo : goal.formula_value-result-requires-clause-memo
-formula_value-result-requires-clause-memo c = c.new-memo.ensures.memo
+pub planned_cell-result-requires-clause-memo : goal.planned_cell-result-requires-clause-memo
+planned_cell-result-requires-clause-memo c = c.new-memo.ensures.memo
 
 pub returns-then-is_circular-clause-owes : goal.returns-then-is_circular-clause-owes
 returns-then-is_circular-clause-owes c = owes_none c.args.self.now _ _
@@ -124,9 +124,9 @@ returns-clause-owes c =
     let has = demands_itself i.store.sheet c.in_ok-world.world c.args.replacements.now c.args.at o c.in_ok-world.ensures in
     let closed = different_closed i.store.sheet (case_of i.store.sheet c.args.replacements.now c.args.at) in
     let Has = HasCase i.store.sheet c.in_ok-world.world c.args.at in
-    let new : KeptSheet = record { stored = i.store; generations = flushed i.store.sheet c.flush.new.self.edited_at; values = c.into_carried.result.value.kept; counts = c.formula_value-result.new.self.meter } in
-    subst (λ (x : KeptSheet). Owes x new (demanded x.stored.sheet c.args.replacements.now c.args.at) (is_ok c.formula_value-result.result)) view
-    (owes_spent q c.formula_value-result.new.self.memo c.into_carried.result.value.kept c.formula_value-result.new.self.meter c.into_carried.ensures.kept c.into_carried.ensures.within Has (demanded i.store.sheet c.args.replacements.now c.args.at) closed has _ (spends_at_most c.formula_value-result.ensures.spends))
+    let new : KeptSheet = record { stored = i.store; generations = flushed i.store.sheet c.flush.new.self.edited_at; values = c.into_carried.result.value.kept; counts = c.planned_cell-result.new.question.meter } in
+    subst (λ (x : KeptSheet). Owes x new (demanded x.stored.sheet c.args.replacements.now c.args.at) (is_ok c.planned_cell-result.result)) view
+    (owes_spent q c.planned_cell-result.new.question.memo c.into_carried.result.value.kept c.planned_cell-result.new.question.meter c.into_carried.ensures.kept c.into_carried.ensures.within Has (demanded i.store.sheet c.args.replacements.now c.args.at) closed has _ c.planned_cell-result.ensures.values.spends)
 
 pub flush-requires-clause-dirty : goal.flush-requires-clause-dirty
 flush-requires-clause-dirty c =
@@ -147,3 +147,6 @@ pub invariant_of-self : goal.invariant_of-self
 invariant_of-self c =
     let i = c.self.inside in
     with_plans i.carried i.graph i.store c.flush.new.self i.meter i.plans (holds_settled i.carried i.graph i.store i.generations c.flush.new.self i.meter c.flush.ensures.edited_at (c.flush.ensures.dirty i.store.sheet c.self.invariant.1) (but_plans i.carried i.graph i.store i.generations i.meter i.plans c.self.invariant)) c.self.invariant.6
+
+pub planned_cell-result-requires-clause-plans : goal.planned_cell-result-requires-clause-plans
+planned_cell-result-requires-clause-plans c = c.self.invariant.6
