@@ -67,7 +67,7 @@ pub use Rattle.wi_scenario_list.specs.Bases.{lacks}
 pub use Rattle.wi_scenarios.specs.Answer.{Answer, MayGrow, MayRefuse, may_grow}
 pub use Rattle.wi_scenarios.specs.Commands.Causes.{BadCommand, BadField, BadLine, Cause, CutShort, EditLimit, Full, Holds, InUse, IsFirst, LeavesSheet, Loop, NoScenario, NumberRange, OutOfSheet, Outside, Stale, Syntax, TooDeep, TooLarge, TooLong, TooMany, lies_outside, order, stale_cell}
 pub use Rattle.wi_scenarios.specs.Commands.Command.{As, Base, Changes, Clear, Command, Compare, Csv, Drop, Export, Fill, Formula, Scenario, Set, Show, Table, Unknown, Unreadable, Use, form, may_force}
-pub use Rattle.wi_scenarios.specs.Commands.Operands.{ADDR, ANY, CONTENT, Cell, Corners, LINES, NAME, Operand, RECT, SESSION, SIDE, WORD, address, area, is_outside}
+pub use Rattle.wi_scenarios.specs.Commands.Operands.{ADDR, ANY, CONTENT, Cell, CornerCells, LINES, NAME, Operand, RECT, SESSION, SIDE, WORD, address, area, is_outside}
 pub use Rattle.wi_scenarios.specs.Commands.Step.{IsFirstOf, IsImportStep, IsStep, Tells, causes}
 pub use Rattle.wi_scenarios.specs.Events.{MayHappen, left_by}
 pub use Rattle.wi_scenarios.specs.Pending.{Book}

@@ -1,7 +1,7 @@
 -- As what words and lines are read: cells and rectangles of any size, and commands.
 use Rattle.std.specs.Prelude.{◌≡◌, ◌⊎◌, ◌-◌, ◌<◌, ℕ, Bool, true, false, List, [], ◌∷◌, ◌++◌, length, filter, filter_map, Some}
 use Rattle.wi_values.specs.AddressReading.{read_address, read_rect}
-use Rattle.wi_scenarios.specs.Commands.Operands.{Cell, Corners}
+use Rattle.wi_scenarios.specs.Commands.Operands.{Cell, CornerCells}
 use Rattle.wi_scenarios.specs.Commands.Command.{Command}
 use Rattle.wi_cli.specs.Lines.{without_lf, Bytes}
 use Rattle.wi_cli.specs.Inner.Operands.{spelled_cell, spelled_rect, read_any, read_any_area}
@@ -18,8 +18,8 @@ pub record SameAddr (word : Bytes) : Type 0 where
   pub read : read_address word ≡ read_any (spelled_cell word)
 
 pub record SameRect (word : Bytes) : Type 0 where
-  pub spelled : (r : Corners) → IsRect word r → spelled_rect word ≡ Some r
-  pub spells : (r : Corners) → spelled_rect word ≡ Some r → IsRect word r
+  pub spelled : (r : CornerCells) → IsRect word r → spelled_rect word ≡ Some r
+  pub spells : (r : CornerCells) → spelled_rect word ≡ Some r → IsRect word r
   pub read : read_rect word ≡ read_any_area (spelled_rect word)
 
 -- ---- lines

@@ -6,7 +6,7 @@ use Rattle.std.specs.Str.{all_ascii_digits}
 use Rattle.std.specs.Str.Parse.{digits_value}
 use Rattle.wi_values.specs.Address.{letters_value, is_row_number}
 use Rattle.wi_values.specs.Name.{is_name}
-use Rattle.wi_scenarios.specs.Commands.Operands.{Cell, Corners, Operand, WORD, CONTENT, NAME, SESSION, ADDR, RECT, LINES, SIDE, ANY}
+use Rattle.wi_scenarios.specs.Commands.Operands.{Cell, CornerCells, Operand, WORD, CONTENT, NAME, SESSION, ADDR, RECT, LINES, SIDE, ANY}
 use Rattle.wi_cli.specs.Lines.{Bytes, is_space, first_word, after_word}
 
 -- ADDR is ASCII letters of either case and then digits, the first not `0`.
@@ -15,7 +15,7 @@ pub data IsAddr : Bytes → Cell → Type 0 where
       → letters_value letters ≡ c.column + 1 → digits_value 10 digits ≡ c.row + 1 → IsAddr (letters ++ digits) c
 
 -- RECT is ADDR or `ADDR:ADDR`, corners in any order.
-pub data IsRect : Bytes → Corners → Type 0 where
+pub data IsRect : Bytes → CornerCells → Type 0 where
   a_cell : (word : Bytes) (c : Cell) → IsAddr word c → IsRect word (c, c)
   two_cells : (v w : Bytes) (c d : Cell) → IsAddr v c → IsAddr w d → IsRect (v ++ codes ":" ++ w) (c, d)
 

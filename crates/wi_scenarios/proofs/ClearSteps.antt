@@ -3,7 +3,7 @@ use Rattle.wi_scenarios.proofs.Words.{◌≡◌, ◌∙◌, Bool, true, false, �
 use Rattle.std.specs.Prelude.{ℕ}
 use Rattle.wi_scenarios.specs.declared.refusal.Refusal.TheVariants as refusal
 use Rattle.wi_scenarios.specs.Inner.Placed.{IsSpanned}
-use Rattle.wi_scenarios.proofs.CommandWords.{Command, Clear, form, Corners, is_outside, area, corners, Put, after_edit, Cause, Outside, TooLarge, NoScenario, Stale, Full, EditLimit, Holds, lies_outside, is_missing, Does, IsStep, causes, IsFirstOf}
+use Rattle.wi_scenarios.proofs.CommandWords.{Command, Clear, form, CornerCells, is_outside, area, corners, Put, after_edit, Cause, Outside, TooLarge, NoScenario, Stale, Full, EditLimit, Holds, lies_outside, is_missing, Does, IsStep, causes, IsFirstOf}
 use Rattle.wi_scenarios.proofs.EditSteps.{outside_first, last, edit_step}
 
 -- each occupied cell of the rectangle gets no content
@@ -15,13 +15,13 @@ abbrev pub cleared : State → Bool → Area → Answer
 cleared s force a = edit_answer s force (clear_edit s.stored.sheet a)
 
 -- an edit may be forced: its form has a word more
-pub clear_outside : (force out : Bool) (r : Corners) → (is_outside r.0 || is_outside r.1) ≡ out → list_any lies_outside (form (Clear force r)) ≡ out
+pub clear_outside : (force out : Bool) (r : CornerCells) → (is_outside r.0 || is_outside r.1) ≡ out → list_any lies_outside (form (Clear force r)) ≡ out
 clear_outside true true r o = rw o refl
 clear_outside true false r o = rw o refl
 clear_outside false true r o = rw o refl
 clear_outside false false r o = rw o refl
 
-module _ (s : State) (force : Bool) (r : Corners) where
+module _ (s : State) (force : Bool) (r : CornerCells) where
   abbrev clear : Command
   clear = Clear force r
 

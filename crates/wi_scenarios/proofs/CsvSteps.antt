@@ -9,7 +9,7 @@ use Rattle.wi_import.specs.declared.fault.ImportFault.TheVariants as import
 use Rattle.wi_scenarios.specs.declared.refusal.Refusal.TheVariants as refusal
 use Rattle.wi_scenarios.specs.Commands.DataLines.{max_line, without_lf}
 use Rattle.wi_scenarios.specs.Commands.Step.{IsImportStep}
-use Rattle.wi_scenarios.proofs.CommandWords.{Command, Csv, form, Cell, is_outside, cell, Put, Puts, fields, named, after_edit, Cause, BadLine, BadCommand, CutShort, Outside, TooLarge, NoScenario, BadField, TooLong, OutOfSheet, NumberRange, TooDeep, Syntax, LeavesSheet, Stale, Full, EditLimit, Holds, lies_outside, is_missing, size, Does, IsStep, causes, IsFirstOf}
+use Rattle.wi_scenarios.proofs.CommandWords.{Command, Csv, form, Cell, is_outside, cell, Put, Puts, fields, named, after_edit, Cause, BadLine, BadCommand, CutShort, Outside, TooLarge, NoScenario, BadField, TooLong, OutOfSheet, NumberRange, TooDeep, Syntax, LeavesSheet, Stale, Full, EditLimit, Holds, lies_outside, is_missing, cells_asked, Does, IsStep, causes, IsFirstOf}
 use Rattle.wi_scenarios.proofs.EditSteps.{outside_first, last, edit_step}
 
 -- what an import comes to: what cells get, or a fault
@@ -46,7 +46,7 @@ module _ (s : State) (force : Bool) (c : Cell) (n : ℕ) (lines : List (List ℕ
   outside_is true = or-false (is_outside c)
   outside_is false = or-false (is_outside c)
 
-  small : (b : Bool) → max_area < size (form (Csv b (Some c) n lines)) → ⊥
+  small : (b : Bool) → max_area < cells_asked (form (Csv b (Some c) n lines)) → ⊥
   small true h = omega (arith, h)
   small false h = omega (arith, h)
 

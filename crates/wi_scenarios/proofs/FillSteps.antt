@@ -3,7 +3,7 @@ use Rattle.wi_scenarios.proofs.Words.{◌≡◌, ◌∙◌, ◌<◌, ◌*◌, �
 use Rattle.std.proofs.Common.{ap₂}
 use Rattle.wi_scenarios.specs.declared.refusal.Refusal.TheVariants as refusal
 use Rattle.wi_scenarios.specs.Inner.Placed.{IsPlaced, IsSpanned}
-use Rattle.wi_scenarios.proofs.CommandWords.{Command, Fill, form, Cell, Corners, is_outside, address, area, cell, corners, Put, Puts, copy_in, after_edit, Cause, Outside, TooLarge, NoScenario, LeavesSheet, Stale, Full, EditLimit, Holds, lies_outside, is_missing, size, Does, IsStep, causes, IsFirstOf}
+use Rattle.wi_scenarios.proofs.CommandWords.{Command, Fill, form, Cell, CornerCells, is_outside, address, area, cell, corners, Put, Puts, copy_in, after_edit, Cause, Outside, TooLarge, NoScenario, LeavesSheet, Stale, Full, EditLimit, Holds, lies_outside, is_missing, cells_asked, Does, IsStep, causes, IsFirstOf}
 use Rattle.wi_scenarios.proofs.CauseTests.{is_large}
 use Rattle.wi_scenarios.proofs.EditSteps.{outside_first, last, edit_step}
 
@@ -65,7 +65,7 @@ none_is (Some x) e = cc
 
 -- ---- the step
 
-pub fill_outside : (force one two : Bool) (c : Cell) (r : Corners) → is_outside c ≡ one → (is_outside r.0 || is_outside r.1) ≡ two → list_any lies_outside (form (Fill force c r)) ≡ (one || two)
+pub fill_outside : (force one two : Bool) (c : Cell) (r : CornerCells) → is_outside c ≡ one → (is_outside r.0 || is_outside r.1) ≡ two → list_any lies_outside (form (Fill force c r)) ≡ (one || two)
 fill_outside true true two c r o p = rw o refl
 fill_outside true false true c r o p = rw (o, p) refl
 fill_outside true false false c r o p = rw (o, p) refl
@@ -77,7 +77,7 @@ fill_outside false false false c r o p = rw (o, p) refl
 once : (n : ℕ) → n * 1 ≡ n
 once n = omega arith
 
-module _ (s : State) (force : Bool) (c : Cell) (r : Corners) where
+module _ (s : State) (force : Bool) (c : Cell) (r : CornerCells) where
   abbrev fill : Command
   fill = Fill force c r
 
@@ -91,7 +91,7 @@ module _ (s : State) (force : Bool) (c : Cell) (r : Corners) where
   none_missing true = refl
   none_missing false = refl
 
-  size_is : (f : Bool) → size (form (Fill f c r)) ≡ size_of (area r)
+  size_is : (f : Bool) → cells_asked (form (Fill f c r)) ≡ size_of (area r)
   size_is true = once (size_of (area r))
   size_is false = once (size_of (area r))
 

@@ -2,7 +2,7 @@
 use Rattle.wi_scenarios.proofs.Words.{◌≡◌, ◌∙◌, ◌*◌, ℕ, Bool, true, false, ◌||◌, nat_lt, List, [], ◌∷◌, length, Option, Some, None, Result, Ok, Err, refl, sym, ap, subst, arith, list_any, or-false, Area, size_of, effective, lacks, rows_shown, export_of, cells_compared, shown, content_record, change_records, told, Refusal, State, max_area, current_session, with_current, current_replacements, Answer, ServesInto, change_list}
 use Rattle.wi_scenarios.specs.declared.refusal.Refusal.TheVariants as refusal
 use Rattle.wi_scenarios.specs.Inner.Placed.{IsPlaced, IsSpanned}
-use Rattle.wi_scenarios.proofs.CommandWords.{Command, Show, Export, Compare, Formula, Changes, form, Cell, Corners, RECT, SIDE, is_outside, address, area, cell, corners, Put, Puts, Cause, Outside, TooLarge, NoScenario, lies_outside, is_missing, size, stale_cell, Does, IsStep, causes}
+use Rattle.wi_scenarios.proofs.CommandWords.{Command, Show, Export, Compare, Formula, Changes, form, Cell, CornerCells, RECT, SIDE, is_outside, address, area, cell, corners, Put, Puts, Cause, Outside, TooLarge, NoScenario, lies_outside, is_missing, cells_asked, stale_cell, Does, IsStep, causes}
 use Rattle.wi_scenarios.proofs.CauseTests.{first_test, found, IsTested, never, is_large, is_small, tested_step}
 use Rattle.wi_scenarios.proofs.AnswerLemmas.{serves_as}
 use Rattle.wi_scenarios.proofs.LookLemmas.{Looked}
@@ -19,10 +19,10 @@ looked_step s c step is r t before after h =
 once : (n : ℕ) → n ≡ n * 1
 once n = omega arith
 
-module _ (r : Corners) (missing : Bool) where
+module _ (r : CornerCells) (missing : Bool) where
   abbrev pub area_test : Cause → Bool
   area_test Outside = list_any lies_outside (RECT r ∷ [])
-  area_test TooLarge = nat_lt max_area (size (RECT r ∷ []))
+  area_test TooLarge = nat_lt max_area (cells_asked (RECT r ∷ []))
   area_test NoScenario = missing
   area_test x = false
 
@@ -33,7 +33,7 @@ area_answer false true lacking done = Err refusal.TooLarge
 area_answer false false true done = Err refusal.NoScenario
 area_answer false false false done = Ok done
 
-module _ (s : State) (r : Corners) (missing : Bool) (c : Command) (tested : (x : Cause) → IsTested s c (area_test r missing) x) (unnamed : stale_cell s c ≡ None)
+module _ (s : State) (r : CornerCells) (missing : Bool) (c : Command) (tested : (x : Cause) → IsTested s c (area_test r missing) x) (unnamed : stale_cell s c ≡ None)
     (unput : (puts : List Put) → Puts s c puts → ⊥) (done : State × List ℕ) (does : Does s c done) where
   area_found : (o : Option Cause) → first_test (area_test r missing) causes ≡ o → IsStep s c (found done o)
   area_found o e = tested_step s c (area_test r missing) tested unnamed unput done (λ k. does) o e
@@ -47,7 +47,7 @@ module _ (s : State) (r : Corners) (missing : Bool) (c : Command) (tested : (x :
   area_step : (out big lack : Bool) → (is_outside r.0 || is_outside r.1) ≡ out → nat_lt max_area (size_of (area r)) ≡ big → missing ≡ lack → IsStep s c (area_answer out big lack done)
   area_step out big lack eo eb el = area_by out big lack eo (ap (nat_lt max_area) (sym (once (size_of (area r)))) ∙ eb) el
 
-module _ (s : State) (r : Corners) where
+module _ (s : State) (r : CornerCells) where
   abbrev pub shown_in : Area → State × List ℕ
   shown_in a = (s, rows_shown (shown s.stored.sheet (current_replacements s)) a)
 
@@ -76,7 +76,7 @@ side_missing : (s : State) (p : Option (List ℕ)) → is_missing s (SIDE p) ≡
 side_missing s None = refl
 side_missing s (Some name) = refl
 
-module _ (s : State) (p q : Option (List ℕ)) (r : Corners) where
+module _ (s : State) (p q : Option (List ℕ)) (r : CornerCells) where
   abbrev pub compared_in : Area → State × List ℕ
   compared_in a = (s, cells_compared (shown s.stored.sheet (effective s.scenarios p)) (shown s.stored.sheet (effective s.scenarios q)) a)
 

@@ -2,7 +2,7 @@
 use Rattle.wi_scenarios.proofs.Words.{◌≡◌, ◌∙◌, ℕ, ◌<◌, ◌≤◌, ◌||◌, Bool, true, false, nat_le, min, max, refl, ap, arith, nat_tests, Area, place, rect_of, row_of, column_of, rows, columns}
 use Rattle.wi_values.specs.Address.{height, width}
 use Rattle.wi_scenarios.specs.Inner.Placed.{IsPlaced, IsSpanned}
-use Rattle.wi_scenarios.proofs.CommandWords.{Cell, Corners, is_outside, address, area, cell}
+use Rattle.wi_scenarios.proofs.CommandWords.{Cell, CornerCells, is_outside, address, area, cell}
 
 pub neither : (a b : Bool) → a ≡ false → b ≡ false → (a || b) ≡ false
 neither false b h k = k
@@ -90,7 +90,7 @@ row_within c e = by (nat_le rows c.row) (nat_le columns c.column) refl refl e
 pub placed_again : (c : Cell) → is_outside c ≡ false → IsPlaced (address c)
 placed_again c e = placed (address c) (row_within c e)
 
-pub spanned_again : (r : Corners) → (is_outside r.0 || is_outside r.1) ≡ false → IsSpanned (area r)
+pub spanned_again : (r : CornerCells) → (is_outside r.0 || is_outside r.1) ≡ false → IsSpanned (area r)
 spanned_again r e = by (is_outside r.0) (is_outside r.1) refl refl e
   where
     by : (a b : Bool) → is_outside r.0 ≡ a → is_outside r.1 ≡ b → (a || b) ≡ false → IsSpanned (area r)

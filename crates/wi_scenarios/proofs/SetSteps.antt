@@ -6,7 +6,7 @@ use Rattle.wi_parser.proofs.ContentsOfTexts.{is_fault, one_content}
 use Rattle.wi_parser.specs.declared.fault.ParseFault.TheVariants as parse
 use Rattle.wi_scenarios.specs.declared.refusal.Refusal.TheVariants as refusal
 use Rattle.wi_scenarios.specs.Inner.Placed.{IsPlaced}
-use Rattle.wi_scenarios.proofs.CommandWords.{Command, Set, form, Cell, is_outside, address, cell, Put, Puts, after_edit, Cause, BadCommand, Outside, TooLarge, NoScenario, TooLong, OutOfSheet, NumberRange, TooDeep, Syntax, LeavesSheet, Stale, Full, EditLimit, Holds, lies_outside, is_missing, size, Does, IsStep, causes, IsFirstOf}
+use Rattle.wi_scenarios.proofs.CommandWords.{Command, Set, form, Cell, is_outside, address, cell, Put, Puts, after_edit, Cause, BadCommand, Outside, TooLarge, NoScenario, TooLong, OutOfSheet, NumberRange, TooDeep, Syntax, LeavesSheet, Stale, Full, EditLimit, Holds, lies_outside, is_missing, cells_asked, Does, IsStep, causes, IsFirstOf}
 use Rattle.wi_scenarios.proofs.EditSteps.{outside_first, last, edit_step}
 
 -- ---- answers
@@ -43,7 +43,7 @@ module _ (s : State) (force : Bool) (c : Cell) (text : List ℕ) (inside : is_ou
   not_outside true = rw inside refl
   not_outside false = rw inside refl
 
-  small : (b : Bool) → max_area < size (form (Set b c text)) → ⊥
+  small : (b : Bool) → max_area < cells_asked (form (Set b c text)) → ⊥
   small true h = omega (arith, h)
   small false h = omega (arith, h)
 

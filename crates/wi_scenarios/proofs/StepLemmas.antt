@@ -1,7 +1,7 @@
 -- A command has one answer.
 use Rattle.wi_scenarios.proofs.Words.{◌≡◌, ◌∙◌, Bool, true, false, not, ◌||◌, ◌&&◌, nat_le, nat_lt, [], ◌∷◌, length, list_any, Some, None, Ok, Err, if◌then◌else◌, refl, sym, imported, imported_exactly, content_read, content_is_one, has_scenario, is_full, has_session, max_sessions, max_area, size_of, lacks, would_loop, State, Answer, inl, inr}
 use Rattle.wi_scenarios.specs.declared.refusal.Refusal.TheVariants as refusal
-use Rattle.wi_scenarios.proofs.CommandWords.{Command, Set, Clear, Fill, Csv, Scenario, Drop, Base, Use, As, Show, Export, Changes, Compare, Table, Formula, Unknown, Unreadable, form, Cell, Corners, is_outside, address, area, BadLine, BadCommand, lies_outside, size, IsStep}
+use Rattle.wi_scenarios.proofs.CommandWords.{Command, Set, Clear, Fill, Csv, Scenario, Drop, Base, Use, As, Show, Export, Changes, Compare, Table, Formula, Unknown, Unreadable, form, Cell, CornerCells, is_outside, address, area, BadLine, BadCommand, lies_outside, cells_asked, IsStep}
 use Rattle.wi_scenarios.proofs.FirstCause.{DoesOne, one_answer}
 use Rattle.wi_scenarios.proofs.LookSteps.{area_answer, shown_in, show_step, exported_in, export_step, compared_in, compare_step, formula_answer, formula_step, after_changes, changes_step}
 use Rattle.wi_scenarios.proofs.SetSteps.{content_answer, set_none, set_some, one_done as set_done}
@@ -11,7 +11,7 @@ use Rattle.wi_scenarios.proofs.CsvSteps.{csv_some, csv_bare, one_done as csv_don
 use Rattle.wi_scenarios.proofs.TableSteps.{is_misshaped, table_answer, tabled, addresses, table_step}
 use Rattle.wi_scenarios.proofs.ScenarioSteps.{is_in_use, drop_answer, drop_step, use_answer, use_step, base_answer, base_step, as_answer, as_step, away_answer, away_step, put_answer, put_step, one_put}
 
-fill_some : (s : State) (force : Bool) (c : Cell) (r : Corners) (one two : Bool) → is_outside c ≡ one → (is_outside r.0 || is_outside r.1) ≡ two → (a : Answer) × IsStep s (Fill force c r) a
+fill_some : (s : State) (force : Bool) (c : Cell) (r : CornerCells) (one two : Bool) → is_outside c ≡ one → (is_outside r.0 || is_outside r.1) ≡ two → (a : Answer) × IsStep s (Fill force c r) a
 fill_some s force c r true two o p = (Err refusal.OutOfSheet, fill_out s force c r true two o p refl)
 fill_some s force c r false true o p = (Err refusal.OutOfSheet, fill_out s force c r false true o p refl)
 fill_some s force c r false false o p =
@@ -64,7 +64,7 @@ an_answer s (Compare p q r) =
 an_answer s (Table f r xs second) =
     let bent = is_misshaped xs second in
     let out = list_any lies_outside (form (Table f r xs second)) in
-    let large = nat_lt max_area (size (form (Table f r xs second))) in
+    let large = nat_lt max_area (cells_asked (form (Table f r xs second))) in
     (table_answer bent out large (tabled s (address f) (address r) (area xs) (addresses second)), table_step s f r xs second bent out large refl refl refl)
 an_answer s (Formula c) = (formula_answer s c (is_outside c), formula_step s c (is_outside c) refl)
 an_answer s Unknown = (Err refusal.BadCommand, (BadCommand, inr (λ h. h, inl (tt, refl)), refl))

@@ -2,12 +2,12 @@
 use Rattle.wi_scenarios.proofs.Words.{◌≡◌, ◌∙◌, ◌*◌, ℕ, Bool, true, false, not, ◌||◌, ◌&&◌, nat_lt, nat_le, List, Option, Some, None, Ok, Err, refl, sym, ap, subst, arith, nat_tests, option_map, list_any, or-false, Area, size_of, is_column, has_row, entries, table_of, State, max_area, current_replacements, Answer}
 use Rattle.wi_scenarios.specs.declared.refusal.Refusal.TheVariants as refusal
 use Rattle.wi_scenarios.specs.Inner.Placed.{IsTablePlaced}
-use Rattle.wi_scenarios.proofs.CommandWords.{Table, form, Cell, Corners, address, area, cell, corners, is_outside, second_input, is_bent, lies_outside, size, Cause, BadCommand, Outside, TooLarge, NoScenario, IsStep, causes}
+use Rattle.wi_scenarios.proofs.CommandWords.{Table, form, Cell, CornerCells, address, area, cell, corners, is_outside, second_input, is_bent, lies_outside, cells_asked, Cause, BadCommand, Outside, TooLarge, NoScenario, IsStep, causes}
 use Rattle.wi_scenarios.proofs.CauseTests.{first_test, found, IsTested, never, is_large, tested_step}
 use Rattle.wi_scenarios.proofs.OperandLemmas.{neither}
 
 -- the column isn't one, or the row, where there is one
-abbrev pub is_misshaped : Corners → Option (Cell × Corners) → Bool
+abbrev pub is_misshaped : CornerCells → Option (Cell × CornerCells) → Bool
 is_misshaped xs None = is_bent (λ c. c.column) xs
 is_misshaped xs (Some y) = is_bent (λ c. c.column) xs || is_bent (λ c. c.row) y.1
 
@@ -28,11 +28,11 @@ abbrev pub tabled : State → ℕ → ℕ → Area → Option (ℕ × Area) → 
 tabled s f r xs second = (s, table_of s.stored.sheet (current_replacements s) f r xs second)
 
 -- the address of a second input, and its row
-abbrev pub addresses : Option (Cell × Corners) → Option (ℕ × Area)
+abbrev pub addresses : Option (Cell × CornerCells) → Option (ℕ × Area)
 addresses second = option_map (λ y. (address y.0, area y.1)) second
 
-table_tested : (s : State) (f r : Cell) (xs : Corners) (second : Option (Cell × Corners)) (bent out large : Bool) → is_misshaped xs second ≡ bent
-    → list_any lies_outside (form (Table f r xs second)) ≡ out → nat_lt max_area (size (form (Table f r xs second))) ≡ large
+table_tested : (s : State) (f r : Cell) (xs : CornerCells) (second : Option (Cell × CornerCells)) (bent out large : Bool) → is_misshaped xs second ≡ bent
+    → list_any lies_outside (form (Table f r xs second)) ≡ out → nat_lt max_area (cells_asked (form (Table f r xs second))) ≡ large
     → (x : Cause) → IsTested s (Table f r xs second) (table_test bent out large) x
 table_tested s f r xs None bent out large eb eo el BadCommand = (λ e. eb ∙ e, λ h. sym eb ∙ h)
 table_tested s f r xs (Some y) bent out large eb eo el BadCommand = (λ e. eb ∙ e, λ h. sym eb ∙ h)
@@ -42,12 +42,12 @@ table_tested s f r xs None bent out large eb eo el NoScenario = (λ e. e, λ h. 
 table_tested s f r xs (Some y) bent out large eb eo el NoScenario = (λ e. e, λ h. h)
 table_tested s f r xs second bent out large eb eo el x = never
 
-module _ (s : State) (f r : Cell) (xs : Corners) (second : Option (Cell × Corners)) where
+module _ (s : State) (f r : Cell) (xs : CornerCells) (second : Option (Cell × CornerCells)) where
   abbrev done : State × List ℕ
   done = tabled s (address f) (address r) (area xs) (addresses second)
 
   pub table_step : (bent out large : Bool) → is_misshaped xs second ≡ bent → list_any lies_outside (form (Table f r xs second)) ≡ out
-      → nat_lt max_area (size (form (Table f r xs second))) ≡ large → IsStep s (Table f r xs second) (table_answer bent out large done)
+      → nat_lt max_area (cells_asked (form (Table f r xs second))) ≡ large → IsStep s (Table f r xs second) (table_answer bent out large done)
   table_step bent out large eb eo el = by bent out large (table_tested s f r xs second bent out large eb eo el)
     where
       tables : (test : Cause → Bool) → ((x : Cause) → IsTested s (Table f r xs second) test x) → (o : Option Cause) → first_test test causes ≡ o → IsStep s (Table f r xs second) (found done o)
@@ -96,7 +96,7 @@ module _ (s : State) (f r : ℕ) (xs : Area) where
       (neither (out_of xs) (is_outside (cell y.0) || (out_of y.1 || false)) h.column.inside
       (neither (is_outside (cell y.0)) (out_of y.1 || false) h.second.0.inside (neither (out_of y.1) false h.second.1.inside refl))))
 
-  size_is : (second : Option (ℕ × Area)) → IsTablePlaced f r xs second → size (form (Table (cell f) (cell r) (corners xs) (second_input second))) ≡ entries xs second
+  size_is : (second : Option (ℕ × Area)) → IsTablePlaced f r xs second → cells_asked (form (Table (cell f) (cell r) (corners xs) (second_input second))) ≡ entries xs second
   size_is None h = ap (λ (a : Area). size_of a * 1) h.column.again
   size_is (Some y) h =
       ap (λ (a : Area). size_of a * (size_of (area (corners y.1)) * 1)) h.column.again

@@ -1,14 +1,14 @@
 -- A cell of the sheet, and the address and the rectangle that it is read as.
-use Rattle.wi_cli.proofs.Vocabulary.{◌≡◌, ◌<◌, ℕ, false, Result, ap₂, arith, nat_tests, ◌||◌, Area, AddressFault, columns, row_of_place, column_of_place, Cell, Corners, is_outside, address, area, read_by, Bool}
+use Rattle.wi_cli.proofs.Vocabulary.{◌≡◌, ◌<◌, ℕ, false, Result, ap₂, arith, nat_tests, ◌||◌, Area, AddressFault, columns, row_of_place, column_of_place, Cell, CornerCells, is_outside, address, area, read_by, Bool}
 use Rattle.wi_scenarios.specs.Commands.Operands.{cell}
 
-abbrev pub lies_out : Corners → Bool
+abbrev pub lies_out : CornerCells → Bool
 lies_out r = is_outside r.0 || is_outside r.1
 
 abbrev pub read_cell : Cell → Result ℕ AddressFault
 read_cell c = read_by (is_outside c) (address c)
 
-abbrev pub read_area : Corners → Result Area AddressFault
+abbrev pub read_area : CornerCells → Result Area AddressFault
 read_area r = read_by (lies_out r) (area r)
 
 pub inside : (c : Cell) → is_outside c ≡ false → c.column < columns

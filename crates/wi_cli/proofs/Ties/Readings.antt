@@ -1,5 +1,5 @@
 -- As what the operands behind a name are read, and the command that they spell.
-use Rattle.wi_cli.proofs.Vocabulary.{◌≡◌, Bool, Err, None, Ok, Option, Result, Some, [], ap, ap₂, arith, false, if◌then◌else◌, inl, inr, length, option_map, refl, subst, sym, true, ℕ, ◌==◌, ◌||◌, ◌∙◌, ◌∷◌, or-false, nat_tests, list_any, result_err, fill_of, A_NAME, END, MAYBE, as_form, base_form, changes_form, clear_form, compare_form, drop_form, export_form, fill_form, formula_form, scenario_form, set_form, show_form, table_form, use_form, Reading, is_all_spaces, line_fault, of_name, of_operand, read_any, read_any_area, read_by, read_side, spelled_cell, spelled_rect, IsRead, IsReadAs, IsReading, table_of_one, table_of_two, Bytes, after_word, first_word, lacks, BadCommand, BadLine, lies_outside, As, Base, Changes, Clear, Command, Compare, Drop, Export, Fill, Formula, Scenario, Set, Show, Unknown, Unreadable, Use, Cell, Corners, is_outside, IsStep, State, Refusal, Area, is_column, is_row, read_address, read_rect, read_name, AddressFault, Shape, made, spelled, at_end, both, form, address, area, Values, AND, A_CELL, A_RECT, name_or_none, only_name, table_behind, subst₂}
+use Rattle.wi_cli.proofs.Vocabulary.{◌≡◌, Bool, Err, None, Ok, Option, Result, Some, [], ap, ap₂, arith, false, if◌then◌else◌, inl, inr, length, option_map, refl, subst, sym, true, ℕ, ◌==◌, ◌||◌, ◌∙◌, ◌∷◌, or-false, nat_tests, list_any, result_err, fill_of, A_NAME, END, MAYBE, as_form, base_form, changes_form, clear_form, compare_form, drop_form, export_form, fill_form, formula_form, scenario_form, set_form, show_form, table_form, use_form, Reading, is_all_spaces, line_fault, of_name, of_operand, read_any, read_any_area, read_by, read_side, spelled_cell, spelled_rect, IsRead, IsReadAs, IsReading, table_of_one, table_of_two, Bytes, after_word, first_word, lacks, BadCommand, BadLine, lies_outside, As, Base, Changes, Clear, Command, Compare, Drop, Export, Fill, Formula, Scenario, Set, Show, Unknown, Unreadable, Use, Cell, CornerCells, is_outside, IsStep, State, Refusal, Area, is_column, is_row, read_address, read_rect, read_name, AddressFault, Shape, made, spelled, at_end, both, form, address, area, Values, AND, A_CELL, A_RECT, name_or_none, only_name, table_behind, subst₂}
 use Rattle.wi_scenarios.specs.declared.refusal.Refusal.TheVariants as refusal
 use Rattle.wi_scenarios.specs.Commands.Operands.{cell, corners}
 use Rattle.wi_cli.specs.declared.command.Command.{Command as ReadCommand}
@@ -45,7 +45,7 @@ module _ (c : Cell) (f : Cell → Command) (outside : is_outside c ≡ true → 
       by true e = outside e
       by false e = within e
 
-module _ (r : Corners) (f : Corners → Command) (outside : lies_out r ≡ true → (s : State) → IsStep s (f r) (Err refusal.OutOfSheet)) (within : lies_out r ≡ false → IsReadAs (f r) (Ok (f (corners (area r))))) where
+module _ (r : CornerCells) (f : CornerCells → Command) (outside : lies_out r ≡ true → (s : State) → IsStep s (f r) (Err refusal.OutOfSheet)) (within : lies_out r ≡ false → IsReadAs (f r) (Ok (f (corners (area r))))) where
   of_rect : IsReadAs (f r) (of_operand (read_area r) (λ a. Ok (f (corners a))))
   of_rect = by (lies_out r) refl
     where
@@ -54,8 +54,8 @@ module _ (r : Corners) (f : Corners → Command) (outside : lies_out r ≡ true 
       by false e = within e
 
 -- one rectangle, and no word behind it
-module _ (f : Corners → Command) (is : (r : Corners) → IsReadAs (f r) (of_operand (read_area r) (λ a. Ok (f (corners a))))) where
-  rect_end : (b : Bool) (o : Option Corners)
+module _ (f : CornerCells → Command) (is : (r : CornerCells) → IsReadAs (f r) (of_operand (read_area r) (λ a. Ok (f (corners a))))) where
+  rect_end : (b : Bool) (o : Option CornerCells)
       → IsReadAs (made (both o (ended b)) (λ v. f v.0)) (if b then of_operand (read_any_area o) (λ a. Ok (f (corners a))) else Err refusal.BadCommand)
   rect_end false None = unknown
   rect_end false (Some r) = unknown
@@ -250,7 +250,7 @@ compare_read text =
     (sym ((same_rect (first_word (after_word (after_word text)))).read))
     (by (is_all_spaces (after_word (after_word (after_word text)))) (read_side (first_word text)) (read_side (first_word (after_word text))) (spelled_rect (first_word (after_word (after_word text)))))
   where
-    by : (b : Bool) (p q : Option (Option Bytes)) (o : Option Corners)
+    by : (b : Bool) (p q : Option (Option Bytes)) (o : Option CornerCells)
         → IsReadAs (made (both p (both q (both o (ended b)))) (λ v. Compare v.0 v.1.0 v.1.1.0))
         (if b then of_name p (λ s. of_name q (λ t. of_operand (read_any_area o) (λ a. Ok (Compare s t (corners a))))) else Err refusal.BadCommand)
     by true None q o = unknown
@@ -276,7 +276,7 @@ fill_read force text =
     (sym ((same_addr (first_word text)).read)) (sym ((same_rect (first_word (after_word text))).read))
     (by (is_all_spaces (after_word (after_word text))) (spelled_cell (first_word text)) (spelled_rect (first_word (after_word text))))
   where
-    inside : (c : Cell) (r : Corners) (x y : Bool) → is_outside c ≡ x → lies_out r ≡ y → IsReadAs (Fill force c r) (fill_of force (read_by x (address c)) (read_by y (area r)))
+    inside : (c : Cell) (r : CornerCells) (x y : Bool) → is_outside c ≡ x → lies_out r ≡ y → IsReadAs (Fill force c r) (fill_of force (read_by x (address c)) (read_by y (area r)))
     inside c r true true e g = λ s. fill_out s force c r true true e g refl
     inside c r true false e g = λ s. fill_out s force c r true false e g refl
     inside c r false true e g = λ s. fill_out s force c r false true e g refl
@@ -286,7 +286,7 @@ fill_read force text =
     no_area a true = unknown
     no_area a false = unknown
 
-    by : (b : Bool) (o : Option Cell) (p : Option Corners) → IsReadAs (made (both o (both p (ended b))) (λ v. Fill force v.0 v.1.0)) (if b then fill_of force (read_any o) (read_any_area p) else Err refusal.BadCommand)
+    by : (b : Bool) (o : Option Cell) (p : Option CornerCells) → IsReadAs (made (both o (both p (ended b))) (λ v. Fill force v.0 v.1.0)) (if b then fill_of force (read_any o) (read_any_area p) else Err refusal.BadCommand)
     by false None p = unknown
     by false (Some c) None = unknown
     by false (Some c) (Some r) = unknown
@@ -306,30 +306,30 @@ no_more (Some x) = refl
 abbrev Second : Type 0
 Second = Values (MAYBE A_CELL (AND A_RECT END))
 
-abbrev table_of : Option Cell → Option Cell → Option Corners → Option Second → Command
+abbrev table_of : Option Cell → Option Cell → Option CornerCells → Option Second → Command
 table_of f r xs y = made (both f (both r (both xs y))) table_form.make
 
-none_of_it : (f r : Option Cell) (xs : Option Corners) → table_of f r xs None ≡ Unknown
+none_of_it : (f r : Option Cell) (xs : Option CornerCells) → table_of f r xs None ≡ Unknown
 none_of_it None r xs = refl
 none_of_it (Some f) None xs = refl
 none_of_it (Some f) (Some r) None = refl
 none_of_it (Some f) (Some r) (Some xs) = refl
 
-one : (f r : Option Cell) (xs : Option Corners) → IsReadAs (table_of f r xs (Some None)) (table_of_one (read_any f) (read_any r) (read_any_area xs))
+one : (f r : Option Cell) (xs : Option CornerCells) → IsReadAs (table_of f r xs (Some None)) (table_of_one (read_any f) (read_any r) (read_any_area xs))
 one f r xs = by f r xs (λ h. one_as (read_any f) (read_any r) (read_any_area xs) (Some Shape) h)
   where
-    by : (f r : Option Cell) (xs : Option Corners) → (worst (one_faults (read_any f) (read_any r) (read_any_area xs)) ≡ Some Shape → table_of_one (read_any f) (read_any r) (read_any_area xs) ≡ Err refusal.BadCommand)
+    by : (f r : Option Cell) (xs : Option CornerCells) → (worst (one_faults (read_any f) (read_any r) (read_any_area xs)) ≡ Some Shape → table_of_one (read_any f) (read_any r) (read_any_area xs) ≡ Err refusal.BadCommand)
         → IsReadAs (table_of f r xs (Some None)) (table_of_one (read_any f) (read_any r) (read_any_area xs))
     by None r xs refuses = bad _ _ (refuses (has_shape [] (result_err (read_any r) ∷ line_fault is_column (read_any_area xs) ∷ []))) refl
     by (Some f) None xs refuses = bad _ _ (refuses (has_shape (result_err (read_cell f) ∷ []) (line_fault is_column (read_any_area xs) ∷ []))) refl
     by (Some f) (Some r) None refuses = bad _ _ (refuses (has_shape (result_err (read_cell f) ∷ result_err (read_cell r) ∷ []) [])) refl
     by (Some f) (Some r) (Some xs) refuses = one_read f r xs
 
-two : (f r : Option Cell) (xs : Option Corners) (c : Option Cell) (ys : Option Corners)
+two : (f r : Option Cell) (xs : Option CornerCells) (c : Option Cell) (ys : Option CornerCells)
     → IsReadAs (table_of f r xs (option_map (λ v. Some v) (both c (both ys (ended true))))) (table_of_two (read_any f) (read_any r) (read_any_area xs) (read_any c) (read_any_area ys))
 two f r xs c ys = by f r xs c ys (λ h. two_as (read_any f) (read_any r) (read_any_area xs) (read_any c) (read_any_area ys) (Some Shape) h)
   where
-    by : (f r : Option Cell) (xs : Option Corners) (c : Option Cell) (ys : Option Corners)
+    by : (f r : Option Cell) (xs : Option CornerCells) (c : Option Cell) (ys : Option CornerCells)
         → (worst (two_faults (read_any f) (read_any r) (read_any_area xs) (read_any c) (read_any_area ys)) ≡ Some Shape
         → table_of_two (read_any f) (read_any r) (read_any_area xs) (read_any c) (read_any_area ys) ≡ Err refusal.BadCommand)
         → IsReadAs (table_of f r xs (option_map (λ v. Some v) (both c (both ys (ended true))))) (table_of_two (read_any f) (read_any r) (read_any_area xs) (read_any c) (read_any_area ys))
@@ -348,12 +348,12 @@ two f r xs c ys = by f r xs c ys (λ h. two_as (read_any f) (read_any r) (read_a
 abbrev reading_behind : Bool → Bool → Result ℕ AddressFault → Result ℕ AddressFault → Result Area AddressFault → Result ℕ AddressFault → Result Area AddressFault → Reading
 reading_behind b g f r xs c ys = if b then table_of_one f r xs else (if g then table_of_two f r xs c ys else Err refusal.BadCommand)
 
-behind : (b g : Bool) (f r : Option Cell) (xs : Option Corners) (c : Option Cell) (ys : Option Corners)
+behind : (b g : Bool) (f r : Option Cell) (xs : Option CornerCells) (c : Option Cell) (ys : Option CornerCells)
     → IsReadAs (table_of f r xs (if b then Some None else option_map (λ v. Some v) (both c (both ys (ended g))))) (reading_behind b g (read_any f) (read_any r) (read_any_area xs) (read_any c) (read_any_area ys))
 behind true g f r xs c ys = one f r xs
 behind false true f r xs c ys = two f r xs c ys
 behind false false f r xs c ys =
-    bad _ _ refl (ap (λ (o : Option (Cell × (Corners × Unit {0}))). table_of f r xs (option_map (λ v. Some v) o)) (ap (λ (o : Option (Corners × Unit {0})). both c o) (no_more ys) ∙ no_more c) ∙ none_of_it f r xs)
+    bad _ _ refl (ap (λ (o : Option (Cell × (CornerCells × Unit {0}))). table_of f r xs (option_map (λ v. Some v) o)) (ap (λ (o : Option (CornerCells × Unit {0})). both c o) (no_more ys) ∙ no_more c) ∙ none_of_it f r xs)
 
 abbrev pub table_text : Bytes → Reading
 table_text text =

@@ -1,5 +1,5 @@
 -- The words that spell a rectangle, and as which they are read.
-use Rattle.wi_cli.proofs.Vocabulary.{◌≡◌, ℕ, suc, ◌+◌, ◌<◌, Bool, true, false, ◌||◌, not, nat_lt, ◌==◌, cond, [], ◌∷◌, ◌++◌, take, drop, length, get_or, Option, Some, None, Result, Ok, Err, refl, sym, ap, ap₂, ◌∙◌, subst, arith, append_assoc, append-nil, length-append, codes, take-append_seam, nat_tests, list_all-append, split_at_first, passes_at_first, is_ascii_alphabetic, is_ascii_digit, list_all, prefix_len, position_or_len, byte, all_ascii_digits, and_parts, rect_of, read_rect, corners, AddressFault, Shape, Cell, Corners, is_outside, address, IsAddr, addr, IsRect, a_cell, two_cells, Bytes, both, spelled_cell, spelled_corners, spelled_rect, read_by, read_any, read_any_area, SameRect, ◌&&◌}
+use Rattle.wi_cli.proofs.Vocabulary.{◌≡◌, ℕ, suc, ◌+◌, ◌<◌, Bool, true, false, ◌||◌, not, nat_lt, ◌==◌, cond, [], ◌∷◌, ◌++◌, take, drop, length, get_or, Option, Some, None, Result, Ok, Err, refl, sym, ap, ap₂, ◌∙◌, subst, arith, append_assoc, append-nil, length-append, codes, take-append_seam, nat_tests, list_all-append, split_at_first, passes_at_first, is_ascii_alphabetic, is_ascii_digit, list_all, prefix_len, position_or_len, byte, all_ascii_digits, and_parts, rect_of, read_rect, corners, AddressFault, Shape, Cell, CornerCells, is_outside, address, IsAddr, addr, IsRect, a_cell, two_cells, Bytes, both, spelled_cell, spelled_corners, spelled_rect, read_by, read_any, read_any_area, SameRect, ◌&&◌}
 use Rattle.std.specs.List.{position}
 use Rattle.std.proofs.Common.{eqb-true}
 use Rattle.wi_values.specs.AddressReading.{read_corners as read_at_colon}
@@ -81,18 +81,18 @@ two v w c d h k =
     ∙ ap₂ (λ (x y : Bytes). both (spelled_cell x) (spelled_cell y)) (take-append_seam v (58 ∷ w)) (behind_colon v w)
     ∙ ap₂ (λ (o p : Option Cell). both o p) ((same_addr v).spelled c h) ((same_addr w).spelled d k)
 
-pub spelled : (word : Bytes) (r : Corners) → IsRect word r → spelled_rect word ≡ Some r
+pub spelled : (word : Bytes) (r : CornerCells) → IsRect word r → spelled_rect word ≡ Some r
 spelled word r (a_cell w c h) = one_cell w c h
 spelled word r (two_cells v w c d h k) = ap spelled_rect (append_assoc v (58 ∷ []) w) ∙ two v w c d h k
 
 -- ---- a word that is read
 
-both_cells : (o p : Option Cell) (r : Corners) → both o p ≡ Some r → (o ≡ Some r.0) × (p ≡ Some r.1)
+both_cells : (o p : Option Cell) (r : CornerCells) → both o p ≡ Some r → (o ≡ Some r.0) × (p ≡ Some r.1)
 both_cells (Some c) (Some d) r e = (cc, cc)
 both_cells (Some c) None r e = cc
 both_cells None p r e = cc
 
-spells_at : (word : Bytes) (r : Corners) → spelled_rect word ≡ Some r → (b : Bool) → nat_lt (position_or_len is_colon word) (length word) ≡ b → IsRect word r
+spells_at : (word : Bytes) (r : CornerCells) → spelled_rect word ≡ Some r → (b : Bool) → nat_lt (position_or_len is_colon word) (length word) ≡ b → IsRect word r
 spells_at word r h false e =
     let k = both_cells _ _ r (sym (by_colon word false e) ∙ h) in
     let one : r.0 ≡ r.1 = let same : ◌≡◌ {A = Option Cell} (Some r.0) (Some r.1) = sym k.0 ∙ k.1 in cc in
@@ -108,7 +108,7 @@ spells_at word r h true e =
     append_assoc front (58 ∷ []) back ∙ ap (λ (b : ℕ). front ++ (b ∷ back)) (sym colon) ∙ sym (split_at_first is_colon word 0 inside) in
     subst (λ (w : Bytes). IsRect w r) parts (two_cells front back r.0 r.1 ((same_addr front).spells r.0 k.0) ((same_addr back).spells r.1 k.1))
 
-pub spells : (word : Bytes) (r : Corners) → spelled_rect word ≡ Some r → IsRect word r
+pub spells : (word : Bytes) (r : CornerCells) → spelled_rect word ≡ Some r → IsRect word r
 spells word r h = spells_at word r h (nat_lt (position_or_len is_colon word) (length word)) refl
 
 -- ---- as what it is read

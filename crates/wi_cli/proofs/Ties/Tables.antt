@@ -1,5 +1,5 @@
 -- As what `table` is read, with one input and with two, and its step.
-use Rattle.wi_cli.proofs.Vocabulary.{◌≡◌, ◌<◌, ◌*◌, ℕ, min, max, Bool, true, false, not, ◌||◌, ◌&&◌, ◌==◌, nat_lt, List, [], ◌∷◌, Option, Some, None, Result, if◌then◌else◌, refl, sym, ap, ◌∙◌, subst, arith, nat_tests, list_any, result_err, or_parts, both_ways, or-false, Area, columns, row_of, column_of, size_of, AddressFault, Shape, row_of_place, column_of_place, State, max_area, is_column, is_row, of_operand, worse, line_fault, unless_refused, table_of_one, table_of_two, Cell, Corners, is_outside, address, area, Command, Table, Answer, read_by, Ok, ap₂, ◌++◌, or-true, Reading, IsReadAs, IsStep, placed}
+use Rattle.wi_cli.proofs.Vocabulary.{◌≡◌, ◌<◌, ◌*◌, ℕ, min, max, Bool, true, false, not, ◌||◌, ◌&&◌, ◌==◌, nat_lt, List, [], ◌∷◌, Option, Some, None, Result, if◌then◌else◌, refl, sym, ap, ◌∙◌, subst, arith, nat_tests, list_any, result_err, or_parts, both_ways, or-false, Area, columns, row_of, column_of, size_of, AddressFault, Shape, row_of_place, column_of_place, State, max_area, is_column, is_row, of_operand, worse, line_fault, unless_refused, table_of_one, table_of_two, Cell, CornerCells, is_outside, address, area, Command, Table, Answer, read_by, Ok, ap₂, ◌++◌, or-true, Reading, IsReadAs, IsStep, placed}
 use Rattle.wi_values.specs.declared.address.AddressFault.TheVariants.{Outside as AtOutside}
 use Rattle.wi_scenarios.specs.declared.refusal.Refusal.TheVariants as refusal
 use Rattle.wi_scenarios.specs.Commands.Operands.{cell, corners}
@@ -122,7 +122,7 @@ has_shape front back = shape_first (front ++ (Some Shape ∷ back)) (by front)
 once : (n : ℕ) → n ≡ n * 1
 once n = omega arith
 
-abbrev pub is_large : Corners → Bool
+abbrev pub is_large : CornerCells → Bool
 is_large r = nat_lt max_area (size_of (area r))
 
 -- the row and the column of a cell, and whether two columns are one
@@ -130,7 +130,7 @@ min_max : (a b : ℕ) → (min a b == max a b) ≡ (a == b)
 min_max a b = grind (arith, nat_tests)
 
 -- within the sheet two corners are in one column where the rectangle is
-column_is : (xs : Corners) → (is_outside xs.0 || is_outside xs.1) ≡ false → is_column (area xs) ≡ (xs.0.column == xs.1.column)
+column_is : (xs : CornerCells) → (is_outside xs.0 || is_outside xs.1) ≡ false → is_column (area xs) ≡ (xs.0.column == xs.1.column)
 column_is xs ex =
     let a : xs.0.column < columns = inside xs.0 (or_parts _ _ ex).0 in
     let b : xs.1.column < columns = inside xs.1 (or_parts _ _ ex).1 in
@@ -141,7 +141,7 @@ column_is xs ex =
     ap (λ (n : ℕ). n == column_of (area xs).last) low ∙ ap (λ (n : ℕ). min xs.0.column xs.1.column == n) high ∙ min_max xs.0.column xs.1.column
 
 -- within the sheet two corners are in one row where the rectangle is
-row_is : (ys : Corners) → (is_outside ys.0 || is_outside ys.1) ≡ false → is_row (area ys) ≡ (ys.0.row == ys.1.row)
+row_is : (ys : CornerCells) → (is_outside ys.0 || is_outside ys.1) ≡ false → is_row (area ys) ≡ (ys.0.row == ys.1.row)
 row_is ys ey =
     let a : ys.0.column < columns = inside ys.0 (or_parts _ _ ey).0 in
     let b : ys.1.column < columns = inside ys.1 (or_parts _ _ ey).1 in
@@ -163,7 +163,7 @@ none_of false false false false e h = (refl, refl, refl, refl, (or_parts e false
 
 -- ---- two inputs
 
-module _ (f r : Cell) (xs : Corners) (c : Cell) (ys : Corners) where
+module _ (f r : Cell) (xs : CornerCells) (c : Cell) (ys : CornerCells) where
   abbrev table : Command
   table = Table f r xs (Some (c, ys))
 
@@ -240,7 +240,7 @@ module _ (f r : Cell) (xs : Corners) (c : Cell) (ys : Corners) where
 
 -- ---- one input
 
-module _ (f r : Cell) (xs : Corners) where
+module _ (f r : Cell) (xs : CornerCells) where
   abbrev one : Command
   one = Table f r xs None
 

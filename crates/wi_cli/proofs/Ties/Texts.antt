@@ -1,5 +1,5 @@
 -- The command that a text spells, and the form that it has.
-use Rattle.wi_cli.proofs.Vocabulary.{◌≡◌, Bool, List, None, Option, Some, [], ap, arith, bytes_eq, codes, cond, false, if◌then◌else◌, not, option_map, refl, subst, suc, sym, true, ℕ, ◌+◌, ◌==◌, ◌∙◌, ◌∷◌, both_ways, nat_tests, before_first, prefix_len, csv_named, csv_text, AND, A_CELL, A_NAME, A_RECT, END, Form, MAYBE, Values, as_form, base_form, changes_form, clear_form, compare_form, drop_form, edit_forms, export_form, fill_form, formula_form, named_command, named_in, read_words, scenario_form, set_form, show_form, table_form, use_form, spelled_command, is_all_spaces, Bytes, after_word, first_word, is_space, skip_spaces, is_passed_over, IsWritten, As, Base, Changes, Clear, Command, Compare, Csv, Drop, Export, Fill, Formula, Scenario, Set, Show, Table, Unknown, Unreadable, Use, may_force, ADDR, Cell, Corners, NAME, Operand, RECT, WORD, take, byte, forms, made, spelled, form}
+use Rattle.wi_cli.proofs.Vocabulary.{◌≡◌, Bool, List, None, Option, Some, [], ap, arith, bytes_eq, codes, cond, false, if◌then◌else◌, not, option_map, refl, subst, suc, sym, true, ℕ, ◌+◌, ◌==◌, ◌∙◌, ◌∷◌, both_ways, nat_tests, before_first, prefix_len, csv_named, csv_text, AND, A_CELL, A_NAME, A_RECT, END, Form, MAYBE, Values, as_form, base_form, changes_form, clear_form, compare_form, drop_form, edit_forms, export_form, fill_form, formula_form, named_command, named_in, read_words, scenario_form, set_form, show_form, table_form, use_form, spelled_command, is_all_spaces, Bytes, after_word, first_word, is_space, skip_spaces, is_passed_over, IsWritten, As, Base, Changes, Clear, Command, Compare, Csv, Drop, Export, Fill, Formula, Scenario, Set, Show, Table, Unknown, Unreadable, Use, may_force, ADDR, Cell, CornerCells, NAME, Operand, RECT, WORD, take, byte, forms, made, spelled, form}
 use Rattle.wi_cli.proofs.Ties.OperandsRead.{no_word, is_word}
 use Rattle.wi_cli.proofs.Ties.Words.{operands, words_read, are_written}
 
@@ -122,7 +122,7 @@ use_is : (o : Option (Bytes × Unit {0})) → form (Use (option_map (λ x. x.0) 
 use_is None = refl
 use_is (Some x) = refl
 
-table_is : (f r : Cell) (xs : Corners) (o : Option (Cell × (Corners × Unit {0})))
+table_is : (f r : Cell) (xs : CornerCells) (o : Option (Cell × (CornerCells × Unit {0})))
     → form (Table f r xs (option_map (λ y. (y.0, y.1.0)) o)) ≡ WORD (codes "table") ∷ ADDR f ∷ ADDR r ∷ RECT xs ∷ operands (MAYBE A_CELL (AND A_RECT END)) o
 table_is f r xs None = refl
 table_is f r xs (Some y) = refl

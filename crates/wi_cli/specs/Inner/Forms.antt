@@ -2,7 +2,7 @@
 use Rattle.std.specs.Prelude.{ℕ, Bool, true, false, List, [], ◌∷◌, Option, Some, None, option_map, if◌then◌else◌, codes}
 use Rattle.std.specs.Str.{bytes_eq}
 use Rattle.wi_values.specs.Name.{Bytes, read_name}
-use Rattle.wi_scenarios.specs.Commands.Operands.{Cell, Corners}
+use Rattle.wi_scenarios.specs.Commands.Operands.{Cell, CornerCells}
 use Rattle.wi_scenarios.specs.Commands.Command.{Command, Set, Clear, Fill, Scenario, Drop, Base, Use, As, Show, Export, Changes, Compare, Table, Formula, Unknown}
 use Rattle.wi_cli.specs.Lines.{first_word, after_word}
 use Rattle.wi_cli.specs.Inner.Operands.{is_all_spaces, both, spelled_cell, spelled_rect, read_side}
@@ -19,7 +19,7 @@ pub data Words : Type 0 where
 
 abbrev pub Value : Kind → Type 0
 Value A_CELL = Cell
-Value A_RECT = Corners
+Value A_RECT = CornerCells
 Value A_NAME = Bytes
 Value A_SESSION = Bytes
 Value A_SIDE = Option Bytes

@@ -11,7 +11,7 @@ use Rattle.wi_values.specs.declared.address.AddressFault.TheVariants.{Shape, Out
 use Rattle.wi_scenarios.specs.declared.refusal.Refusal.{Refusal}
 use Rattle.wi_scenarios.specs.declared.refusal.Refusal.TheVariants.{BadCommand}
 use Rattle.wi_scenarios.specs.Answer.{operand_refusal}
-use Rattle.wi_scenarios.specs.Commands.Operands.{Cell, Corners, is_outside, address, area}
+use Rattle.wi_scenarios.specs.Commands.Operands.{Cell, CornerCells, is_outside, address, area}
 use Rattle.wi_scenarios.specs.Commands.Command.{Command}
 use Rattle.wi_cli.specs.Lines.{is_space, first_word, after_word}
 
@@ -34,11 +34,11 @@ both (Some x) None = None
 both None o = None
 
 -- the corners of a word whose first colon is known: without one it is a single cell's
-abbrev pub spelled_corners : List ℕ → Option ℕ → Option Corners
+abbrev pub spelled_corners : List ℕ → Option ℕ → Option CornerCells
 spelled_corners word None = both (spelled_cell word) (spelled_cell word)
 spelled_corners word (Some k) = both (spelled_cell (take k word)) (spelled_cell (drop (k + 1) word))
 
-unfoldable pub spelled_rect : List ℕ → Option Corners
+unfoldable pub spelled_rect : List ℕ → Option CornerCells
 spelled_rect word = spelled_corners word (position (λ c. c == byte ":") word)
 
 -- what is outside the sheet isn't read
@@ -50,7 +50,7 @@ abbrev pub read_any : Option Cell → Result ℕ AddressFault
 read_any None = Err Shape
 read_any (Some c) = read_by (is_outside c) (address c)
 
-abbrev pub read_any_area : Option Corners → Result Area AddressFault
+abbrev pub read_any_area : Option CornerCells → Result Area AddressFault
 read_any_area None = Err Shape
 read_any_area (Some r) = read_by (is_outside r.0 || is_outside r.1) (area r)
 

@@ -18,7 +18,7 @@ use Rattle.wi_sessions.specs.Sessions.{has_session, max_sessions}
 use Rattle.wi_scenarios.specs.State.{State, max_area}
 use Rattle.wi_scenarios.specs.Views.{current_session}
 use Rattle.wi_scenarios.specs.Commands.DataLines.{max_line, without_lf}
-use Rattle.wi_scenarios.specs.Commands.Operands.{Cell, Corners, is_outside, address, area, Operand, ADDR, RECT, NAME, SIDE, ANY}
+use Rattle.wi_scenarios.specs.Commands.Operands.{Cell, CornerCells, is_outside, address, area, Operand, ADDR, RECT, NAME, SIDE, ANY}
 use Rattle.wi_scenarios.specs.Commands.Command.{Command, Set, Clear, Fill, Csv, Scenario, Drop, Base, As, Table, Unknown, Unreadable, form}
 use Rattle.wi_scenarios.specs.Commands.Edits.{is_forced, named, fields, copy_in, Put, Puts, sheet_with}
 
@@ -43,13 +43,13 @@ lies_outside (RECT r) = is_outside r.0 || is_outside r.1
 lies_outside o = false
 
 -- the cells of an area, or the entries of a table of two
-abbrev pub size : List Operand → ℕ
-size [] = 1
-size (RECT r ∷ os) = size_of (area r) * size os
-size (o ∷ os) = size os
+abbrev pub cells_asked : List Operand → ℕ
+cells_asked [] = 1
+cells_asked (RECT r ∷ os) = size_of (area r) * cells_asked os
+cells_asked (o ∷ os) = cells_asked os
 
 -- within the sheet, but not one column, or not one row, as `part` says
-abbrev pub is_bent : (Cell → ℕ) → Corners → Bool
+abbrev pub is_bent : (Cell → ℕ) → CornerCells → Bool
 is_bent part r = not (lies_outside (RECT r)) && not (part r.0 == part r.1)
 
 -- ---- the causes, in the state s
@@ -80,7 +80,7 @@ module _ (s : State) where
   Holds Outside c = IsTrue (list_any lies_outside (form c))
   -- The area is too large; `clear` takes one of any size.
   Holds TooLarge (Clear force rect) = ⊥
-  Holds TooLarge c = max_area < size (form c)
+  Holds TooLarge c = max_area < cells_asked (form c)
   -- There is no such scenario; one that gets a replacement is made.
   Holds NoScenario (Scenario name at (b ∷ bs)) = ⊥
   Holds NoScenario c = IsTrue (list_any is_missing (form c))

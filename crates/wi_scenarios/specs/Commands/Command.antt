@@ -1,22 +1,22 @@
 -- The commands of the script, and how each is written.
 use Rattle.std.specs.Prelude.{ℕ, Bool, true, false, List, [], ◌∷◌, Option, Some, None, codes}
 use Rattle.wi_fraction.specs.Text.{Bytes}
-use Rattle.wi_scenarios.specs.Commands.Operands.{Cell, Corners, Operand, WORD, ADDR, RECT, NAME, SESSION, SIDE, ANY, LINES, CONTENT}
+use Rattle.wi_scenarios.specs.Commands.Operands.{Cell, CornerCells, Operand, WORD, ADDR, RECT, NAME, SESSION, SIDE, ANY, LINES, CONTENT}
 
 -- What a line asks for, whatever its operands are worth. `Csv` has the number of data lines asked for and those that
 -- came.
 pub data Command : Type 0 where
   Set : Bool → Cell → Bytes → Command
-  Clear : Bool → Corners → Command
-  Fill : Bool → Cell → Corners → Command
+  Clear : Bool → CornerCells → Command
+  Fill : Bool → Cell → CornerCells → Command
   Csv : Bool → Option Cell → ℕ → List Bytes → Command
   Scenario : Bytes → Cell → Bytes → Command
   Drop As : Bytes → Command
   Base : Bytes → Option Bytes → Command
   Use : Option Bytes → Command
-  Show Export : Corners → Command
-  Compare : Option Bytes → Option Bytes → Corners → Command
-  Table : Cell → Cell → Corners → Option (Cell × Corners) → Command
+  Show Export : CornerCells → Command
+  Compare : Option Bytes → Option Bytes → CornerCells → Command
+  Table : Cell → Cell → CornerCells → Option (Cell × CornerCells) → Command
   Formula : Cell → Command
   -- `changes`; a line that spells no command; and one that can't be read
   Changes Unknown Unreadable : Command

@@ -9,8 +9,8 @@ pub record Cell : Type 0 where
   pub column : ℕ
 
 -- two opposite corners of a rectangle, in any order
-abbrev pub Corners : Type 0
-Corners = Cell × Cell
+abbrev pub CornerCells : Type 0
+CornerCells = Cell × Cell
 
 abbrev pub is_outside : Cell → Bool
 is_outside c = nat_le rows c.row || nat_le columns c.column
@@ -19,24 +19,24 @@ is_outside c = nat_le rows c.row || nat_le columns c.column
 abbrev pub address : Cell → ℕ
 address c = place c.row c.column
 
-abbrev pub area : Corners → Area
+abbrev pub area : CornerCells → Area
 area r = rect_of (address r.0) (address r.1)
 
 -- the operands of an address and of a rectangle of the sheet
 abbrev pub cell : ℕ → Cell
 cell a = record { row = row_of a; column = column_of a }
 
-abbrev pub corners : Area → Corners
+abbrev pub corners : Area → CornerCells
 corners r = (cell r.first, cell r.last)
 
 -- those of a table's second input and its row, where it has them
-abbrev pub second_input : Option (ℕ × Area) → Option (Cell × Corners)
+abbrev pub second_input : Option (ℕ × Area) → Option (Cell × CornerCells)
 second_input second = option_map (λ y. (cell y.0, corners y.1)) second
 
 pub data Operand : Type 0 where
   WORD CONTENT NAME SESSION : Bytes → Operand
   ADDR : Cell → Operand
-  RECT : Corners → Operand
+  RECT : CornerCells → Operand
   LINES : ℕ → Operand
   -- a scenario, or `-` for the base
   SIDE : Option Bytes → Operand
