@@ -65,7 +65,7 @@ pub use Rattle.wi_scenarios.specs.Changes.{change_list}
 pub use Rattle.wi_scenarios.specs.Events.{Event, ForcedIsNotStale, IsCoherent, IsFirstNewer, KeepsApart, ListsAddUp, LogGrows, MayFollow, MayHappen, RecordsTellList, StaleIsNewer, StaysCoherent, change_fields, counts_before, edits_in, edits_since, is_accepted_changes, is_newer, is_refused_before, is_told, last_shown, left_by, lists_told, logged, logged_by, state_after, unseen, with_lists}
 pub use Rattle.wi_scenarios.specs.Inner.Copies.{AreCopies, CopiesAs, HasNoCopies, columns_between, copy_to, has_no_copy, or_nothing, rows_between}
 pub use Rattle.wi_scenarios.specs.Inner.EditAnswer.{Edit, answer_by, edit_answer, limit_of, stale_in, with_stored}
-pub use Rattle.wi_scenarios.specs.Inner.Calls.{Edits, IsAs, IsChanges, IsDrop, IsEdit, IsImport, IsMade, Looks, ServesInto}
+pub use Rattle.wi_scenarios.specs.Inner.Calls.{Edits, IsAs, IsChanges, IsDrop, IsEditBy, IsImport, IsMade, Looks, ServesInto}
 pub use Rattle.wi_scenarios.specs.Inner.Editing.{AreMarked, Commits, HasRooms, MayFail, SameBeside}
 pub use Rattle.wi_scenarios.specs.Inner.Sound.{AreClosed, AreCovered, IsClosed, IsSound, IsUpToDate, MakesSound, ServesSound, book_by, book_of, pending_in, state_of}
 pub use Rattle.wi_scenarios.specs.Inner.Switch.{AreDiffering, Differs, HasRoom, HasRoomFor, differing, same_option}

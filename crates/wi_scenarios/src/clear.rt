@@ -4,7 +4,7 @@ ghost use Rattle.std.specs.Prelude.{◌≡◌, map, None, IfOk};
 ghost use Rattle.wi_scenarios.specs.Commands.Command as command;
 ghost use Rattle.wi_scenarios.specs.Commands.Operands.{corners};
 ghost use Rattle.wi_scenarios.specs.Pending.{occupied_in};
-ghost use Rattle.wi_scenarios.specs.Inner.Calls.{IsEdit};
+ghost use Rattle.wi_scenarios.specs.Inner.Calls.{IsEditBy};
 ghost use Rattle.wi_scenarios.specs.Inner.Sound.{book_by, IsSound};
 
 use crate::areas::is_spanned;
@@ -28,7 +28,7 @@ pub(crate) fn clear<C: Calculator>(
 ) -> Result<(), Refusal>
     requires { IsSound C.marked (C.stored calculator.old) desk.old }
     ensures edit { let book = book_by C.stored C.evaluated C.restarted in
-        IsEdit C.marked (occupied_in (C.stored calculator.old).sheet area)
+        IsEditBy C.marked (occupied_in (C.stored calculator.old).sheet area)
         (command.Clear force (corners area))
         result (book calculator.old desk.old) (book calculator.new desk.new) }
     ensures sound { IsSound C.marked (C.stored calculator.new) desk.new }

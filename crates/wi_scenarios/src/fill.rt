@@ -6,7 +6,7 @@ ghost use Rattle.wi_values.specs.Address.{rows, cells_of, cells_of_row};
 ghost use Rattle.wi_scenarios.specs.Commands.Command as command;
 ghost use Rattle.wi_scenarios.specs.Commands.Operands.{cell, corners};
 ghost use Rattle.wi_scenarios.specs.Commands.Edits.{copied};
-ghost use Rattle.wi_scenarios.specs.Inner.Calls.{IsEdit};
+ghost use Rattle.wi_scenarios.specs.Inner.Calls.{IsEditBy};
 ghost use Rattle.wi_scenarios.specs.Inner.Copies.{rows_between, columns_between, CopiesAs, AreCopies, HasNoCopies};
 ghost use Rattle.wi_scenarios.specs.Inner.Sound.{book_by, IsSound};
 
@@ -31,7 +31,7 @@ pub(crate) fn fill<C: Calculator>(
 ) -> Result<(), Refusal>
     requires { IsSound C.marked (C.stored calculator.old) desk.old }
     ensures edit { let book = book_by C.stored C.evaluated C.restarted in
-        IsEdit C.marked (cells_of area) (command.Fill force (cell from) (corners area))
+        IsEditBy C.marked (cells_of area) (command.Fill force (cell from) (corners area))
         result (book calculator.old desk.old) (book calculator.new desk.new) }
     ensures sound { IsSound C.marked (C.stored calculator.new) desk.new }
 {

@@ -3,7 +3,7 @@
 ghost use Rattle.std.specs.Prelude.{[], ◌∷◌};
 ghost use Rattle.wi_scenarios.specs.Commands.Command as command;
 ghost use Rattle.wi_scenarios.specs.Commands.Operands.{cell};
-ghost use Rattle.wi_scenarios.specs.Inner.Calls.{IsEdit};
+ghost use Rattle.wi_scenarios.specs.Inner.Calls.{IsEditBy};
 ghost use Rattle.wi_scenarios.specs.Inner.Sound.{book_by, IsSound};
 
 use crate::areas::is_placed;
@@ -26,7 +26,7 @@ pub(crate) fn set<C: Calculator>(
 ) -> Result<(), Refusal>
     requires { IsSound C.marked (C.stored calculator.old) desk.old }
     ensures edit { let book = book_by C.stored C.evaluated C.restarted in
-        IsEdit C.marked (at ∷ []) (command.Set force (cell at) content.now)
+        IsEditBy C.marked (at ∷ []) (command.Set force (cell at) content.now)
         result (book calculator.old desk.old) (book calculator.new desk.new) }
     ensures sound { IsSound C.marked (C.stored calculator.new) desk.new }
 {

@@ -11,7 +11,7 @@ ghost use Rattle.wi_scenarios.specs.Commands.Operands.{cell, corners, second_inp
 ghost use Rattle.wi_scenarios.specs.Commands.Step.{IsStep};
 ghost use Rattle.wi_scenarios.specs.Asked.{asked_by_show, asked_by_compare, asked_by_table};
 ghost use Rattle.wi_scenarios.specs.Pending.{SameForOthers, occupied_in, occupied_cells};
-ghost use Rattle.wi_scenarios.specs.Inner.Calls.{IsEdit, IsImport, IsDrop, IsAs, ServesInto, Looks, IsChanges};
+ghost use Rattle.wi_scenarios.specs.Inner.Calls.{IsEditBy, IsImport, IsDrop, IsAs, ServesInto, Looks, IsChanges};
 
 use crate::areas::is_table_placed;
 use crate::base::base;
@@ -113,7 +113,7 @@ impl<C: Calculator> Workbook<C> {
     /// something new, or a cycle may be closed or opened. The memory for a session grows with the cells that aren't
     /// pending for it.
     pub fn set(&mut self, at: Address, content: &str, force: bool) -> Result<(), Refusal>
-        ensures { IsEdit C.marked (at ∷ []) (command.Set force (cell at) content.now)
+        ensures { IsEditBy C.marked (at ∷ []) (command.Set force (cell at) content.now)
             result self.old self.new }
     {
         set(
@@ -129,7 +129,7 @@ impl<C: Calculator> Workbook<C> {
     /// Empties the cells of a rectangle of any size. `force` is as of `set`. The work grows with its occupied cells;
     /// for each a search passes cells that stand beside it, in no more rows than the rectangle has columns.
     pub fn clear(&mut self, area: Rect, force: bool) -> Result<(), Refusal>
-        ensures { IsEdit C.marked (occupied_in self.old.state.stored.sheet area)
+        ensures { IsEditBy C.marked (occupied_in self.old.state.stored.sheet area)
             (command.Clear force (corners area)) result self.old self.new }
     {
         clear(
@@ -145,7 +145,7 @@ impl<C: Calculator> Workbook<C> {
     /// formula's references move by the distance; where one would leave the sheet, the whole command is refused. From
     /// an empty cell the rectangle is emptied. `force` is as of `set`. The work grows with the cells of the rectangle.
     pub fn fill(&mut self, from: Address, area: Rect, force: bool) -> Result<(), Refusal>
-        ensures { IsEdit C.marked (cells_of area) (command.Fill force (cell from) (corners area))
+        ensures { IsEditBy C.marked (cells_of area) (command.Fill force (cell from) (corners area))
             result self.old self.new }
     {
         fill(
@@ -184,7 +184,7 @@ impl<C: Calculator> Workbook<C> {
         at: Address,
         content: &str,
     ) -> Result<(), Refusal>
-        ensures { IsEdit C.marked []
+        ensures { IsEditBy C.marked []
             (command.Scenario (bytes_of name.entry) (cell at) content.now)
             result self.old self.new }
     {
@@ -202,7 +202,7 @@ impl<C: Calculator> Workbook<C> {
     /// the work grows with the count of scenarios, the scenario's own replacements, all that the sessions' scenarios
     /// put in, and what depends on the cell.
     pub fn scenario_clear(&mut self, name: Name<'_>, at: Address) -> Result<(), Refusal>
-        ensures { IsEdit C.marked [] (command.Scenario (bytes_of name.entry) (cell at) [])
+        ensures { IsEditBy C.marked [] (command.Scenario (bytes_of name.entry) (cell at) [])
             result self.old self.new }
     {
         take_away(
@@ -218,7 +218,7 @@ impl<C: Calculator> Workbook<C> {
     /// what `scenario_set` does: the work grows with the count of scenarios, the scenario's own replacements, all that
     /// the sessions' scenarios put in, and what depends on the cells whose replacement changes.
     pub fn scenario_base(&mut self, name: Name<'_>, other: Option<Name<'_>>) -> Result<(), Refusal>
-        ensures { IsEdit C.marked []
+        ensures { IsEditBy C.marked []
             (command.Base (bytes_of name.entry) (option_map bytes_of other.entry))
             result self.old self.new }
     {
@@ -242,7 +242,7 @@ impl<C: Calculator> Workbook<C> {
     /// The current session uses a scenario, or the sheet as it stands. The work grows with all that the old and the new
     /// scenario put in, and with what depends on the cells whose replacement changes.
     pub fn use_scenario(&mut self, name: Option<Name<'_>>) -> Result<(), Refusal>
-        ensures edit { IsEdit C.marked [] (command.Use (option_map bytes_of name.entry))
+        ensures edit { IsEditBy C.marked [] (command.Use (option_map bytes_of name.entry))
             result self.old self.new }
         ensures others { SameForOthers self.old.state.current self.old.pending self.new.pending }
     {

@@ -23,8 +23,8 @@ pub record Edits (marked : Sheet → List ℕ → ℕ → Bool) (cells : List �
   pub refused : OnErr result (new.pending ≡ old.pending)
   pub counts : SameCounts old new
 
-abbrev pub IsEdit : (Sheet → List ℕ → ℕ → Bool) → List ℕ → Command → Result (Unit {0}) Refusal → Book → Book → Type 0
-IsEdit marked cells c result old new = Edits marked cells (Serves (IsStep old.state c) result old.state new.state []) result old new
+abbrev pub IsEditBy : (Sheet → List ℕ → ℕ → Bool) → List ℕ → Command → Result (Unit {0}) Refusal → Book → Book → Type 0
+IsEditBy marked cells c result old new = Edits marked cells (Serves (IsStep old.state c) result old.state new.state []) result old new
 
 abbrev pub IsImport : (Sheet → List ℕ → ℕ → Bool) → Bool → ℕ → List ℕ → Result (Unit {0}) Refusal → Book → Book → Type 0
 IsImport marked force at text result old new =

@@ -10,7 +10,7 @@ use Rattle.wi_scenarios.specs.State.{State}
 use Rattle.wi_scenarios.specs.Views.{session_at, shown_to}
 use Rattle.wi_scenarios.specs.Pending.{Book, AddsOnly, is_pending}
 use Rattle.wi_scenarios.specs.Commands.Command.{Command}
-use Rattle.wi_scenarios.specs.Inner.Calls.{IsEdit}
+use Rattle.wi_scenarios.specs.Inner.Calls.{IsEditBy}
 use Rattle.wi_scenarios.specs.declared.desk.Desk.{Desk}
 use Rattle.wi_scenarios.specs.declared.refusal.Refusal.{Refusal}
 
@@ -58,7 +58,7 @@ pub record IsSound (marked : Sheet → List ℕ → ℕ → Bool) (stored : Stor
 -- What a command about scenarios leaves: it edits no cell, and whatever the calculator counted before, it counts
 -- nothing more.
 pub record ServesSound (marked : Sheet → List ℕ → ℕ → Bool) (c : Command) (result : Result (Unit {0}) Refusal) (stored : Stored) (old new : Desk) : Type 0 where
-  pub edit : (evaluated restarted : ℕ) → IsEdit marked [] c result (book_of stored evaluated restarted old) (book_of stored evaluated restarted new)
+  pub edit : (evaluated restarted : ℕ) → IsEditBy marked [] c result (book_of stored evaluated restarted old) (book_of stored evaluated restarted new)
   pub sound : IsSound marked stored new
 
 -- what a call leaves that makes another state of a desk, or runs out of memory
