@@ -1,10 +1,10 @@
 -- Data lines, as they are taken and held.
-use Rattle.wi_cli.proofs.Vocabulary.{◌≡◌, ℕ, ◌+◌, ◌-◌, ◌<◌, ◌≤◌, Bool, true, false, ◌||◌, ◌&&◌, cond, ltb, List, [], ◌∷◌, ◌++◌, length, take, refl, sym, ap, ◌∙◌, subst, ⊎_elim, Option, None, Some, append_assoc, append-nil, length-append, arith, concat, list_any, is_utf8, IsAtEnd, prepend_known, or-true, take_all, length-take, list_any-append, false≢true, lt-ltb, le-ltb, ltb-true, cases_lt, RunFault, Held, Lacking, DataLines, raw_lines, without_cr, is_whole, CsvLine, csv_text, csv_line, is_long, raw, line_front, TookLine, Broke, TookLines, IsCsv, HoldsLines, AddedTo, TookData, BrokeData}
+use Rattle.wi_cli.proofs.Vocabulary.{◌≡◌, ℕ, ◌+◌, ◌-◌, ◌<◌, ◌≤◌, Bool, true, false, ◌||◌, ◌&&◌, cond, ltb, List, [], ◌∷◌, ◌++◌, length, take, refl, sym, ap, ◌∙◌, subst, ⊎_elim, None, Some, append_assoc, append-nil, length-append, arith, concat, list_any, is_utf8, or-true, take_all, length-take, list_any-append, false≢true, lt-ltb, le-ltb, ltb-true, cases_lt, RunFault, Held, Lacking, DataLines, raw_lines, without_cr, is_whole, CsvLine, csv_text, csv_line, is_long, raw, line_front, Place, IsOver, TookNext, BrokeNext, TookLines, IsCsv, HoldsLines, AddedTo, TookData, BrokeData}
 use Rattle.wi_cli.specs.declared.csv_line.CsvLine.{CsvLine as ReadCsv}
 use Rattle.wi_cli.specs.declared.data_lines.Held.TheVariants.{All, TooLong}
 use Rattle.wi_cli.specs.Inner.Data.{Holds}
 use Rattle.wi_cli.proofs.LineLemmas.{raw_lines-last, raw_lines-raw, without_lf-raw, concat_push}
-use Rattle.wi_cli.proofs.TakenLemmas.{IsCsvOf, IsCounted, none_taken, one_taken, taken_lines, TookLines-trans, one_broke}
+use Rattle.wi_cli.proofs.TakenLemmas.{IsCsvOf, none_taken, one_taken, taken_lines, TookLines-trans, one_broke}
 
 -- ---- a line by its front
 
@@ -121,36 +121,34 @@ added_one d d' whole line content no_lf e h some wanted missing held =
 
 -- ---- all that are taken
 
-no_last : {whole : Bool} {b : List ℕ} {l : Option (List ℕ)} {b' : List ℕ} {l' : Option (List ℕ)} {m n : ℕ} → (h : TookLines whole b l b' l' m n) → whole ≡ true → h.lines ++ raw_lines h.last ≡ h.lines
+no_last : {whole : Bool} {p q : Place} → (h : TookLines whole p q) → whole ≡ true → h.lines ++ raw_lines h.last ≡ h.lines
 no_last h e = ap (λ x. h.lines ++ raw_lines x) (h.none_last e) ∙ append-nil h.lines
 
-pub data_begun : (asked : ℕ) (d : DataLines) (whole : Bool) (b : List ℕ) (l : Option (List ℕ)) (count : ℕ) → count ≤ 1000000 → (whole ≡ false → IsAtEnd (prepend_known b l))
-    → d.missing ≡ asked → HoldsLines d [] → TookData asked d whole whole b l b l count count
-data_begun asked d whole b l count most e missing held = record {
-  took = none_taken whole b l count most e;
+pub data_begun : (asked : ℕ) (d : DataLines) (whole : Bool) (p : Place) → p.lines ≤ 1000000 → (whole ≡ false → IsOver p) → d.missing ≡ asked → HoldsLines d [] → TookData asked d whole whole p p
+data_begun asked d whole p most e missing held = record {
+  took = none_taken whole p most e;
   none_taken = λ f. (f, refl, refl);
   missing = let none : length (raw_lines []) ≡ 0 = refl in omega (arith, missing);
   held = held;
 }
 
-pub data_more : (asked : ℕ) (d d' : DataLines) (before whole : Bool) (a : List ℕ) (p : Option (List ℕ)) (b : List ℕ) (q : Option (List ℕ)) (c : List ℕ) (r : Option (List ℕ)) (line : List ℕ) (m n o : ℕ)
-    → n ≤ 1000000 → TookData asked d before true a p b q m n → (k : TookLine (ltb n 1000000) whole b q c r line) → IsCounted whole n o
-    → AddedTo d d' (raw_lines (raw whole k.content)) → TookData asked d' before whole a p c r m o
-data_more asked d d' before whole a p b q c r line m n o most h k e more =
-    let one = one_taken whole b q c r line n o most k e in
-    let same : (h.took.lines ++ one.lines) ++ raw_lines one.last ≡ (h.took.lines ++ raw_lines h.took.last) ++ raw_lines (raw whole k.content) =
-    append_assoc h.took.lines one.lines (raw_lines one.last) ∙ ap (λ x. h.took.lines ++ x) (taken_lines whole b q c r line n o most k e)
-    ∙ ap (λ x. x ++ raw_lines (raw whole k.content)) (sym (no_last h.took refl)) in record {
-      took = TookLines-trans whole a p b q c r m n o h.took one;
+pub data_more : (asked : ℕ) (d d' : DataLines) (before whole : Bool) (p q r : Place) (line : List ℕ) → q.lines ≤ 1000000 → TookData asked d before true p q → (k : TookNext whole q r line)
+    → AddedTo d d' (raw_lines (raw whole k.took.content)) → TookData asked d' before whole p r
+data_more asked d d' before whole p q r line most h k more =
+    let one = one_taken whole q r line most k in
+    let same : (h.took.lines ++ one.lines) ++ raw_lines one.last ≡ (h.took.lines ++ raw_lines h.took.last) ++ raw_lines (raw whole k.took.content) =
+    append_assoc h.took.lines one.lines (raw_lines one.last) ∙ ap (λ x. h.took.lines ++ x) (taken_lines whole q r line most k)
+    ∙ ap (λ x. x ++ raw_lines (raw whole k.took.content)) (sym (no_last h.took refl)) in record {
+      took = TookLines-trans whole p q r h.took one;
       none_taken = λ f. absurd (false≢true (sym (h.none_taken f).0));
-      missing = omega (arith, ap length same, length-append (h.took.lines ++ raw_lines h.took.last) (raw_lines (raw whole k.content)), more.missing, h.missing);
+      missing = omega (arith, ap length same, length-append (h.took.lines ++ raw_lines h.took.last) (raw_lines (raw whole k.took.content)), more.missing, h.missing);
       held = subst (HoldsLines d') (sym same) (more.held _ h.held);
     }
 
-pub data_stopped : (asked : ℕ) (d : DataLines) (before : Bool) (fault : RunFault) (a : List ℕ) (p : Option (List ℕ)) (b : List ℕ) (q : Option (List ℕ)) (c : List ℕ) (r : Option (List ℕ)) (m n : ℕ)
-    → n ≤ 1000000 → TookData asked d before true a p b q m n → 0 < d.missing → Broke fault (ltb n 1000000) b q c r → BrokeData asked before fault a p c r m
-data_stopped asked d before fault a p b q c r m n most h some k =
-    let broke = one_broke fault a p b q c r m n h.took k most in record {
+pub data_stopped : (asked : ℕ) (d : DataLines) (before : Bool) (fault : RunFault) (p q r : Place) → q.lines ≤ 1000000 → TookData asked d before true p q → 0 < d.missing → BrokeNext fault q r
+    → BrokeData asked before fault p r
+data_stopped asked d before fault p q r most h some k =
+    let broke = one_broke fault p q r h.took k most in record {
       came = go before (λ f. (h.none_taken f).0);
       broke = broke.0;
       some_missing = omega (arith, h.missing, ap length (no_last h.took refl), ap length broke.1);
@@ -169,7 +167,7 @@ pub goes_on_some : (whole : Bool) (n : ℕ) → (whole && ltb 0 n) ≡ true → 
 goes_on_some true n h = ltb-true 0 n h
 goes_on_some false n h = absurd (false≢true h)
 
-pub still_few : {asked : ℕ} {d : DataLines} {before whole : Bool} {b : List ℕ} {l : Option (List ℕ)} {b' : List ℕ} {l' : Option (List ℕ)} {m n : ℕ} → TookData asked d before whole b l b' l' m n → n ≤ 1000000
+pub still_few : {asked : ℕ} {d : DataLines} {before whole : Bool} {p q : Place} → TookData asked d before whole p q → q.lines ≤ 1000000
 still_few h = let few = h.took.few in omega arith
 
 -- what is missing and may still come

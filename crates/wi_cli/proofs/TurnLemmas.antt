@@ -1,9 +1,8 @@
 -- A line served, and its reply written.
-use Rattle.wi_cli.proofs.Vocabulary.{◌≡◌, ℕ, ◌+◌, ◌<◌, ◌≤◌, Bool, ◌||◌, not, cond, ltb, ap, refl, ◌∙◌, ⊎_elim, Some, List, ◌++◌, length, take, drop, sym, subst, Option, None, [], Appends-nil, length-append, arith, option_to_list, Appends, Appends-trans, take-append-drop, take-append-le, length-take, take_all, lt-ltb, cases_lt, is_utf8, without_cr, take-append-add, AppendsFront, State, Passed, Reply, Told, reply_bytes, csv_line, line_command, text_command, line_front, RunFault, Result, Err, Broke, Memory, Read, Write, ScriptLimit, TookLine, TookBlock, BrokeBlock, Turned, Stopped, Ok, MatchResult, CanRead, ReadsOn, IsReplied, Command, Unreadable, false, Writes}
-use Rattle.wi_cli.specs.Inner.Turn.{CutShort}
+use Rattle.wi_cli.proofs.Vocabulary.{◌≡◌, ℕ, ◌+◌, ◌<◌, ◌≤◌, Bool, ◌||◌, not, cond, ltb, ap, refl, ◌∙◌, ⊎_elim, Some, List, ◌++◌, length, take, sym, subst, Option, None, [], Appends-nil, length-append, arith, Appends, Appends-trans, take-append-le, length-take, take_all, lt-ltb, cases_lt, is_utf8, without_cr, take-append-add, AppendsFront, Passed, Reply, Told, reply_bytes, csv_line, line_command, text_command, line_front, RunFault, Result, Err, Memory, Read, Write, ScriptLimit, Place, Stage, TookNext, Broke, TookBlock, BrokeBlock, Served, Stopped, IsTurn, Ok, CanRead, ReadsOn, IsReplied, Command, Unreadable}
 use Rattle.wi_cli.proofs.RunLemmas.{Writes-told}
 use Rattle.wi_cli.proofs.ReadingLemmas.{stops_unwritten}
-use Rattle.wi_cli.proofs.TakenLemmas.{IsCounted, plain_block}
+use Rattle.wi_cli.proofs.TakenLemmas.{plain_block}
 use Rattle.wi_cli.proofs.DataLemmas.{no_csv}
 
 pub AppendsFront-append : (a b c : Option (List ℕ)) (xs ys : List ℕ) → Appends a b xs → AppendsFront b c ys → AppendsFront a c (xs ++ ys)
@@ -30,54 +29,34 @@ unfolding line_front line_command
 line_command-front content = same_at_front 65536 65537 (λ xs. text_command (without_cr xs)) (Some Unreadable) (λ xs. not (is_utf8 (without_cr xs))) content refl
 
 -- a line that asks for no data lines, by what was read of its front
-pub asked_block : (whole : Bool) (b : List ℕ) (l : Option (List ℕ)) (b' : List ℕ) (l' : Option (List ℕ)) (line front : List ℕ) (count count' : ℕ) (command : Option Command) → count ≤ 1000000
-    → (k : TookLine (ltb count 1000000) whole b l b' l' line) → IsCounted whole count count' → front ≡ line → csv_line front ≡ None → line_command front ≡ command
-    → TookBlock command whole b l b' l' count count'
-asked_block whole b l b' l' line front count count' command most k e same none is =
-    let read : front ≡ line_front k.content = same ∙ k.kept in
-    subst (λ o. TookBlock o whole b l b' l' count count') (sym (line_command-front k.content) ∙ ap line_command (sym read) ∙ is)
-    (plain_block whole b l b' l' line count count' most k e (no_csv front k.content read none))
+pub asked_block : (whole : Bool) (p q : Place) (line front : List ℕ) (command : Option Command) → p.lines ≤ 1000000 → (k : TookNext whole p q line) → front ≡ line → csv_line front ≡ None
+    → line_command front ≡ command → TookBlock command whole p q
+asked_block whole p q line front command most k same none is =
+    let read : front ≡ line_front k.took.content = same ∙ k.took.kept in
+    subst (λ o. TookBlock o whole p q) (sym (line_command-front k.took.content) ∙ ap line_command (sym read) ∙ is) (plain_block whole p q line most k (no_csv front k.took.content read none))
 
-pub turned : (whole : Bool) (b : List ℕ) (l : Option (List ℕ)) (b' : List ℕ) (l' : Option (List ℕ)) (count count' : ℕ) (s t : State) (w w' : Option (List ℕ)) (command : Option Command) (a : Reply) (out : List ℕ)
-    → TookBlock command whole b l b' l' count count' → Told command a s t out → Appends w w' (reply_bytes a out) → Turned whole b l b' l' count count' s t w w'
-turned whole b l b' l' count count' s t w w' command a out k told h =
-    record { command = command; block = k; out = reply_bytes a out; written = h; writes = Writes-told command a s t out told }
+abbrev served : {whole : Bool} (old new : Stage) {command : Option Command} (a : Reply) (out : List ℕ) → TookBlock command whole old.read new.read → Told command a old.state new.state out → Served whole old new
+served old new {command} a out k told = record { command = command; block = k; reply = reply_bytes a out; writes = Writes-told command a old.state new.state out told }
 
 -- a line that is passed over
-pub passed : (whole : Bool) (b : List ℕ) (l : Option (List ℕ)) (b' : List ℕ) (l' : Option (List ℕ)) (count count' : ℕ) (s : State) (w : Option (List ℕ))
-    → TookBlock None whole b l b' l' count count' → Turned whole b l b' l' count count' s s w w
-passed whole b l b' l' count count' s w k = turned whole b l b' l' count count' s s w w None Passed [] k refl (Appends-nil w)
+pub passed : {whole : Bool} (old new : Stage) → TookBlock None whole old.read new.read → new.state ≡ old.state → new.written ≡ old.written → IsTurn (Ok whole) old new
+passed old new k same kept = (served old new Passed [] k same, subst (λ w. Appends old.written w []) (sym kept) (Appends-nil old.written))
 
 -- no block was taken, and nothing is answered
-pub stopped : (e : RunFault) (b : List ℕ) (l : Option (List ℕ)) (b' : List ℕ) (l' : Option (List ℕ)) (count : ℕ) (s t : State) (w w' : Option (List ℕ))
-    → BrokeBlock e b l b' l' count → t ≡ s → w' ≡ w → Stopped e b l b' l' count s t w w'
-stopped Memory b l b' l' count s t w w' k same kept = absurd k.broke.cause
-stopped Read b l b' l' count s t w w' k same kept = (k, same, kept)
-stopped Write b l b' l' count s t w w' k same kept = absurd k.broke.cause
-stopped ScriptLimit b l b' l' count s t w w' k same kept = (k, same, kept)
-
-pub cut_short : (whole : Bool) (b : List ℕ) (l : Option (List ℕ)) (b' : List ℕ) (l' : Option (List ℕ)) (count count' : ℕ) (s t : State) (w w' : Option (List ℕ)) (command : Option Command) (a : Reply) (out : List ℕ)
-    → TookBlock command whole b l b' l' count count' → Told command a s t out → AppendsFront w w' (reply_bytes a out) → CutShort b l b' l' count s t w w'
-cut_short whole b l b' l' count count' s t w w' command a out k told h = record {
-  whole = whole;
-  count' = count';
-  command = command;
-  block = k;
-  out = take h.0 (reply_bytes a out);
-  unwritten = drop h.0 (reply_bytes a out);
-  written = h.2;
-  writes = subst (λ x. Writes false s (option_to_list command) x t) (sym (take-append-drop h.0 (reply_bytes a out))) (Writes-told command a s t out told);
-}
+pub stopped : (e : RunFault) (old new : Stage) → BrokeBlock e old.read new.read → new.state ≡ old.state → new.written ≡ old.written → Stopped e old new
+stopped Memory old new k same kept = absurd k.broke.cause
+stopped Read old new k same kept = (k, same, kept)
+stopped Write old new k same kept = absurd k.broke.cause
+stopped ScriptLimit old new k same kept = (k, same, kept)
 
 -- a block was taken and served, and its reply was written, or a front of it
-pub answered : (r : Result Bool RunFault) (whole : Bool) (b : List ℕ) (l : Option (List ℕ)) (b' : List ℕ) (l' : Option (List ℕ)) (count count' : ℕ) (s t : State) (w w' : Option (List ℕ)) (command : Option Command) (a : Reply) (out : List ℕ)
-    → TookBlock command whole b l b' l' count count' → Told command a s t out → IsReplied whole a out r w w'
-    → MatchResult r (λ end. Turned end b l b' l' count count' s t w w') (λ e. Stopped e b l b' l' count s t w w')
-answered (Ok end) whole b l b' l' count count' s t w w' command a out k told h = subst (λ x. Turned x b l b' l' count count' s t w w') (sym h.0) (turned whole b l b' l' count count' s t w w' command a out k told h.1)
-answered (Err Write) whole b l b' l' count count' s t w w' command a out k told h = cut_short whole b l b' l' count count' s t w w' command a out k told h
-answered (Err Memory) whole b l b' l' count count' s t w w' command a out k told h = absurd h
-answered (Err Read) whole b l b' l' count count' s t w w' command a out k told h = absurd h
-answered (Err ScriptLimit) whole b l b' l' count count' s t w w' command a out k told h = absurd h
+pub answered : (r : Result Bool RunFault) (whole : Bool) (old new : Stage) {command : Option Command} (a : Reply) (out : List ℕ) → TookBlock command whole old.read new.read
+    → Told command a old.state new.state out → IsReplied whole a out r old.written new.written → IsTurn r old new
+answered (Ok end) whole old new a out k told h = subst (λ x. IsTurn (Ok x) old new) (sym h.0) (served old new a out k told, h.1)
+answered (Err Write) whole old new a out k told h = (whole, served old new a out k told, h)
+answered (Err Memory) whole old new a out k told h = absurd h
+answered (Err Read) whole old new a out k told h = absurd h
+answered (Err ScriptLimit) whole old new a out k told h = absurd h
 
 -- and the reader of lines reads on where it was written
 pub answered_reads : {has_failed : Bool} {capacity : ℕ} (r : Result Bool RunFault) (whole : Bool) (a : Reply) (out : List ℕ) (w w' : Option (List ℕ))

@@ -19,7 +19,6 @@ pub use Rattle.std.specs.Cmp.Lexicographic.{pointwise}
 pub use Rattle.std.specs.Io.KnownBytes.{Appends, Consumes, IsAtEnd, Keeps, prepend_known}
 pub use Rattle.std.specs.List.{Contains, after_first, before_first, concat, cons_option, list_all, list_any, position_or_len, prefix_len}
 pub use Rattle.std.specs.Option.{IfSome, option_to_list}
-pub use Rattle.std.specs.Prelude.{MatchResult}
 pub use Rattle.std.specs.Result.{result_err}
 pub use Rattle.std.specs.Str.{IsCharBoundary, IsUtf8, all_ascii_digits, byte, is_utf8}
 pub use Rattle.std.specs.Str.Parse.{digits_value, digits_value_after}
@@ -37,6 +36,7 @@ unfoldable pub use Rattle.wi_cli.specs.Inner.Forms.{spelled, spelled_command}
 pub use Rattle.wi_cli.specs.Inner.Front.{AppendsFront}
 pub use Rattle.wi_cli.specs.Inner.Operands.{Reading, at_end, both, is_all_spaces, line_fault, name_or_none, of_name, of_operand, only_name, read_any, read_any_area, read_by, read_side, spelled_corners, unless_refused, worse}
 unfoldable pub use Rattle.wi_cli.specs.Inner.Operands.{spelled_cell, spelled_rect}
+pub use Rattle.wi_cli.specs.Inner.Place.{Advances, BrokeNext, IsOver, Place, Stage, TookNext, place_of, stage_of}
 pub use Rattle.wi_cli.specs.Inner.Reading.{Broke, CanRead, HasStopped, ReadsOn, TookLine, TookPart, raw}
 unfoldable pub use Rattle.wi_cli.specs.Inner.Reading.{line_front}
 pub use Rattle.wi_cli.specs.Inner.Reply.{reply, refused_cell}
@@ -48,7 +48,7 @@ unfoldable pub use Rattle.wi_cli.specs.Inner.Spelling.{IsRead}
 pub use Rattle.wi_cli.specs.Inner.Several.{fill_of, table_behind, table_of_one, table_of_two}
 pub use Rattle.wi_cli.specs.Inner.Taken.{AreBlocks, AreBlocksOf, AreWhole, BrokeLines, TookLines}
 pub use Rattle.wi_cli.specs.Inner.Told.{IsServed, KeepsMemory, RefusedAs, Told, reply_bytes}
-pub use Rattle.wi_cli.specs.Inner.Turn.{BrokeBlock, IsReplied, Stopped, TookBlock, Turned}
+pub use Rattle.wi_cli.specs.Inner.Turn.{BrokeBlock, IsReplied, IsTurn, Served, Stopped, TookBlock}
 pub use Rattle.wi_cli.specs.Laws.{SameAddr, SameRect, Splits, a_line, asked, blocks_that_count, commands_of, cut_short, line_block, none}
 pub use Rattle.wi_cli.specs.Lines.{Bytes, after_word, first_word, is_space, is_whole, max_line, max_lines, onto_first, raw_lines, skip_spaces, without_cr, without_lf}
 pub use Rattle.wi_cli.specs.Outcome.{IsRun, Outcome, Writes}

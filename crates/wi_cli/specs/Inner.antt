@@ -12,6 +12,7 @@ pub mod Data
 pub mod Front
 pub mod Reading
 pub mod Spelling
+pub mod Place
 pub mod Taken
 pub mod Told
 pub mod Turn

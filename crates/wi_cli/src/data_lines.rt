@@ -1,10 +1,10 @@
 //! The data lines behind a line that asks for them.
 
 ghost use Rattle.std.specs.Prelude.{◌≡◌, ◌+◌, ◌<◌, ◌≤◌, ◌++◌, ◌∷◌, ◌&&◌, ◌||◌, nat_lt, [], List, ℕ, false, true, length, MatchResult, IfOk, OnOk, vec_capacity};
-ghost use Rattle.std.specs.Io.KnownBytes.{IsAtEnd, prepend_known};
 ghost use Rattle.wi_cli.specs.Lines.{raw_lines, is_whole};
 ghost use Rattle.wi_cli.specs.Lines.{max_lines};
 ghost use Rattle.wi_cli.specs.Inner.Reading.{raw, line_front, CanRead, ReadsOn};
+ghost use Rattle.wi_cli.specs.Inner.Place.{place_of, IsOver};
 ghost use Rattle.wi_cli.specs.Inner.Data.{wants, Holds, HoldsLines, AddedTo, TookData, BrokeData};
 
 use crate::again::{forget, free_bytes};
@@ -176,15 +176,11 @@ pub(crate) fn read_data<R: Source, C: Calculator>(
 ) -> Result<bool, RunFault>
     requires reads { CanRead (R.has_failed source.old) (vec_capacity script.old.line) }
     requires few { script.old.lines ≤ max_lines }
-    requires at_end { whole ≡ false
-        → IsAtEnd (prepend_known script.old.chunk (R.remaining source.old)) }
-    ensures took { MatchResult result
-        (λ end. TookData csv.now.lines data_lines.new whole end
-        script.old.chunk (R.remaining source.old)
-        script.new.chunk (R.remaining source.new) script.old.lines script.new.lines)
-        (λ e. BrokeData csv.now.lines whole e
-        script.old.chunk (R.remaining source.old)
-        script.new.chunk (R.remaining source.new) script.old.lines) }
+    requires at_end { whole ≡ false → IsOver (place_of R.remaining script.old source.old) }
+    ensures took { let place = place_of R.remaining in
+        let old = place script.old source.old in let new = place script.new source.new in
+        MatchResult result (λ end. TookData csv.now.lines data_lines.new whole end old new)
+        (λ e. BrokeData csv.now.lines whole e old new) }
     ensures all { IfOk result (λ end. end ≡ true → data_lines.new.missing ≡ 0) }
     ensures wanted { OnOk result (data_lines.new.wanted ≡ wants csv.now) }
     ensures book { book.new ≡ book.old }

@@ -1,8 +1,9 @@
 //! The lines of a source.
 
-ghost use Rattle.std.specs.Prelude.{◌++◌, List, ℕ, ◌≡◌, ◌+◌, ◌≤◌, MatchResult, nat_lt, vec_capacity, if◌then◌else◌};
+ghost use Rattle.std.specs.Prelude.{◌++◌, List, ℕ, ◌≡◌, ◌+◌, ◌≤◌, MatchResult, nat_lt, vec_capacity};
 ghost use Rattle.wi_cli.specs.Lines.{max_lines};
 ghost use Rattle.wi_cli.specs.Inner.Reading.{CanRead, ReadsOn, TookLine, TookPart, Broke, line_front};
+ghost use Rattle.wi_cli.specs.Inner.Place.{place_of, TookNext, BrokeNext};
 
 use crate::chunk::Chunk;
 use crate::fault::RunFault;
@@ -106,14 +107,10 @@ pub(crate) fn next_line<R: Source>(
     source: &mut R,
 ) -> Result<bool, RunFault>
     requires { CanRead (R.has_failed source.old) (vec_capacity script.old.line) }
-    ensures took { MatchResult result
-        (λ whole. TookLine (nat_lt script.old.lines max_lines) whole
-        script.old.chunk (R.remaining source.old)
-        script.new.chunk (R.remaining source.new) script.new.line.items
-        × (script.new.lines ≡ script.old.lines + (if whole then 1 else 0)))
-        (λ e. Broke e (nat_lt script.old.lines max_lines)
-        script.old.chunk (R.remaining source.old)
-        script.new.chunk (R.remaining source.new)) }
+    ensures took { let place = place_of R.remaining in
+        let old = place script.old source.old in let new = place script.new source.new in
+        MatchResult result (λ whole. TookNext whole old new script.new.line.items)
+        (λ e. BrokeNext e old new) }
     ensures reads { ReadsOn result (R.has_failed source.new) (vec_capacity script.new.line) }
 {
     let allowed = may_go_on(script.lines);

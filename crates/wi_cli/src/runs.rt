@@ -1,9 +1,10 @@
 //! Runs a script.
 
-ghost use Rattle.std.specs.Prelude.{◌≡◌, ◌≤◌, OnOk, OnErr, IfErr, MatchResult, Err, false, true, vec_capacity};
+ghost use Rattle.std.specs.Prelude.{◌≡◌, ◌≤◌, OnOk, OnErr, IfErr, Err, false, true, vec_capacity};
 ghost use Rattle.std.specs.Io.KnownBytes.{Keeps};
 ghost use Rattle.wi_cli.specs.Inner.Reading.{CanRead, ReadsOn};
-ghost use Rattle.wi_cli.specs.Inner.Turn.{IsReplied, Turned, Stopped};
+ghost use Rattle.wi_cli.specs.Inner.Place.{stage_of};
+ghost use Rattle.wi_cli.specs.Inner.Turn.{IsReplied, IsTurn};
 ghost use Rattle.wi_cli.specs.Lines.{max_lines};
 ghost use Rattle.wi_cli.specs.Outcome.{IsRun};
 
@@ -61,14 +62,9 @@ fn turn<R: Source, W: Sink, C: Calculator>(
     requires reads { CanRead (R.has_failed reader.old) (vec_capacity buffers.old.script.line) }
     requires writes { W.has_failed writer.old ≡ false }
     requires few { buffers.old.script.lines ≤ max_lines }
-    ensures done { MatchResult result
-        (λ whole. Turned whole buffers.old.script.chunk (R.remaining reader.old)
-        buffers.new.script.chunk (R.remaining reader.new)
-        buffers.old.script.lines buffers.new.script.lines
-        book.old.state book.new.state (W.contents writer.old) (W.contents writer.new))
-        (λ e. Stopped e buffers.old.script.chunk (R.remaining reader.old)
-        buffers.new.script.chunk (R.remaining reader.new) buffers.old.script.lines
-        book.old.state book.new.state (W.contents writer.old) (W.contents writer.new)) }
+    ensures done { let stage = stage_of R.remaining W.contents in
+        IsTurn result (stage buffers.old.script reader.old writer.old book.old.state)
+        (stage buffers.new.script reader.new writer.new book.new.state) }
     ensures reads { ReadsOn result (R.has_failed reader.new)
         (vec_capacity buffers.new.script.line) }
     ensures writes { OnOk result (W.has_failed writer.new ≡ false) }

@@ -1,6 +1,5 @@
 -- Lines have no other commands than those that they are read as.
 use Rattle.wi_cli.proofs.Vocabulary.{◌≡◌, ℕ, ◌-◌, ◌<◌, Bool, true, false, not, ◌==◌, ◌||◌, nat_lt, cond, List, [], ◌∷◌, ◌++◌, length, filter, filter_map, ◌⊎◌, inl, inr, Option, Some, None, if◌then◌else◌, refl, sym, ap, ap₂, ◌∙◌, subst, arith, codes, append_assoc, append-nil, cons_option, is_utf8, nat_tests, IsUtf8-from_is_utf8, is_utf8-from_IsUtf8, le-ltb, both_ways, without_lf, max_line, Bytes, csv_text, Block, lines_of, blocks, blocks_from, is_complete, block_command, spelled_command, Cell, IsWritten, Command, Csv, Unknown, Unreadable, form, line_text, IsGood, Asks, is_passed_over, IsCommand, asked, line_block, blocks_that_count, commands_of, AreCommands}
-use Rattle.std.proofs.Common.{option_to_list}
 use Rattle.wi_cli.specs.Script.{none as no_commands, a_line as line_with, cut_short as line_cut}
 use Rattle.wi_cli.specs.Laws.{Takes}
 use Rattle.wi_cli.proofs.Ties.CsvLines.{AsksOrNot, it_asks, it_asks_none, asks_or_not, asked_is, short_line, it_is_read, TextReads, text_or}

@@ -1,8 +1,6 @@
 -- What words are read as, and the operands that they spell.
 use Rattle.wi_cli.proofs.Vocabulary.{◌≡◌, ℕ, suc, ◌≤◌, ◌+◌, Bool, true, false, ◌&&◌, not, nat_lt, nat_le, cond, [], ◌∷◌, length, take, ◌⊎◌, inl, inr, Option, Some, None, option_map, if◌then◌else◌, refl, sym, ap, ◌∙◌, subst, arith, codes, bytes_eq, prefix_len, before_first, after_first, all_ascii_digits, digits_value, nat_tests, bytes_eq-Decides, le-leb, leb-true, and_parts, both_ways, is_name, read_name, is_space, skip_spaces, first_word, after_word, Bytes, read_side, is_all_spaces, read_lines, IsSpelled, SIDE, LINES}
 use Rattle.wi_values.specs.declared.address.AddressFault.TheVariants.{Outside}
-use Rattle.wi_cli.proofs.Ties.Addresses.{same_addr}
-use Rattle.wi_cli.proofs.Ties.Rects.{same_rect}
 
 -- ---- options
 

@@ -11,7 +11,7 @@ use Rattle.wi_scenarios.proofs.LookSteps.{show_step, export_step, compare_step}
 use Rattle.wi_cli.proofs.Ties.Cells.{lies_out, read_cell, read_area}
 use Rattle.wi_cli.proofs.Ties.Addresses.{same_addr}
 use Rattle.wi_cli.proofs.Ties.Rects.{same_rect}
-use Rattle.wi_cli.proofs.Ties.Tables.{is_large, worst, has_shape, one_faults, two_faults, one_as, two_as, one_read, two_read}
+use Rattle.wi_cli.proofs.Ties.Tables.{is_large, worst, has_shape, faults, faults_behind, table_reading, table_as, table_read}
 
 pub unknown : IsReadAs Unknown (Err refusal.BadCommand)
 unknown s = (BadCommand, inr (λ h. h, inl (tt, refl)), refl)
@@ -37,21 +37,10 @@ ended b = if b then Some tt else None
 
 -- ---- a cell or a rectangle of the sheet, or outside
 
-module _ (c : Cell) (f : Cell → Command) (outside : is_outside c ≡ true → (s : State) → IsStep s (f c) (Err refusal.OutOfSheet)) (within : is_outside c ≡ false → IsReadAs (f c) (Ok (f (cell (address c))))) where
-  of_cell : IsReadAs (f c) (of_operand (read_cell c) (λ at. Ok (f (cell at))))
-  of_cell = by (is_outside c) refl
-    where
-      by : (b : Bool) → is_outside c ≡ b → IsReadAs (f c) (of_operand (read_by b (address c)) (λ at. Ok (f (cell at))))
-      by true e = outside e
-      by false e = within e
-
-module _ (r : CornerCells) (f : CornerCells → Command) (outside : lies_out r ≡ true → (s : State) → IsStep s (f r) (Err refusal.OutOfSheet)) (within : lies_out r ≡ false → IsReadAs (f r) (Ok (f (corners (area r))))) where
-  of_rect : IsReadAs (f r) (of_operand (read_area r) (λ a. Ok (f (corners a))))
-  of_rect = by (lies_out r) refl
-    where
-      by : (b : Bool) → lies_out r ≡ b → IsReadAs (f r) (of_operand (read_by b (area r)) (λ a. Ok (f (corners a))))
-      by true e = outside e
-      by false e = within e
+of_read : {X Y : Type 0} (f : X → Command) (x : X) (again : Y → X) (y : Y) (out : Bool) → (out ≡ true → (s : State) → IsStep s (f x) (Err refusal.OutOfSheet)) → (out ≡ false → IsReadAs (f x) (Ok (f (again y))))
+    → IsReadAs (f x) (of_operand (read_by out y) (λ v. Ok (f (again v))))
+of_read f x again y true outside within = outside refl
+of_read f x again y false outside within = within refl
 
 -- one rectangle, and no word behind it
 module _ (f : CornerCells → Command) (is : (r : CornerCells) → IsReadAs (f r) (of_operand (read_area r) (λ a. Ok (f (corners a))))) where
@@ -77,35 +66,33 @@ module _ (f : CornerCells → Command) (is : (r : CornerCells) → IsReadAs (f r
 pub clear_so : (force : Bool) (text : Bytes) (r : Read) → IsReading (at_end (after_word text) (of_operand (read_rect (first_word text)) (λ a. Ok (Clear force (corners a))))) r
     → IsRead (spelled (clear_form force) text) r
 unfolding spelled
-clear_so force text r k = rect_so (λ r. Clear force r) (λ r. of_rect r (λ r. Clear force r) (λ e s. clear_step s force r true e) (λ e. (clear_outside force false r e, refl))) text r k
+clear_so force text r k = rect_so (λ r. Clear force r) (λ r. of_read (λ r. Clear force r) r corners (area r) (lies_out r) (λ e s. clear_step s force r true e) (λ e. (clear_outside force false r e, refl))) text r k
 
 pub show_so : (text : Bytes) (r : Read) → IsReading (at_end (after_word text) (of_operand (read_rect (first_word text)) (λ a. Ok (Show (corners a))))) r → IsRead (spelled show_form text) r
 unfolding spelled
-show_so text r k = rect_so (λ r. Show r) (λ r. of_rect r (λ r. Show r) (λ e s. show_step s r true (is_large r) e refl) (λ e. (or-false _ ∙ e, refl))) text r k
+show_so text r k = rect_so (λ r. Show r) (λ r. of_read (λ r. Show r) r corners (area r) (lies_out r) (λ e s. show_step s r true (is_large r) e refl) (λ e. (or-false _ ∙ e, refl))) text r k
 
 pub export_so : (text : Bytes) (r : Read) → IsReading (at_end (after_word text) (of_operand (read_rect (first_word text)) (λ a. Ok (Export (corners a))))) r → IsRead (spelled export_form text) r
 unfolding spelled
-export_so text r k = rect_so (λ r. Export r) (λ r. of_rect r (λ r. Export r) (λ e s. export_step s r true (is_large r) e refl) (λ e. (or-false _ ∙ e, refl))) text r k
+export_so text r k = rect_so (λ r. Export r) (λ r. of_read (λ r. Export r) r corners (area r) (lies_out r) (λ e s. export_step s r true (is_large r) e refl) (λ e. (or-false _ ∙ e, refl))) text r k
 
 -- ---- a cell
 
 abbrev pub formula_text : Bytes → Reading
 formula_text text = at_end (after_word text) (of_operand (read_address (first_word text)) (λ at. Ok (Formula (cell at))))
 
-formula_read : (text : Bytes) → IsReadAs (spelled formula_form text) (formula_text text)
+pub formula_so : (text : Bytes) (r : Read) → IsReading (formula_text text) r → IsRead (spelled formula_form text) r
 unfolding spelled
-formula_read text =
-    subst (λ (w : Result ℕ AddressFault). IsReadAs (spelled formula_form text) (at_end (after_word text) (of_operand w (λ at. Ok (Formula (cell at)))))) (sym ((same_addr (first_word text)).read))
-    (by (is_all_spaces (after_word text)) (spelled_cell (first_word text)))
+formula_so text r k =
+    read_as (spelled formula_form text) (formula_text text) r
+    (subst (λ (w : Result ℕ AddressFault). IsReadAs (spelled formula_form text) (at_end (after_word text) (of_operand w (λ at. Ok (Formula (cell at)))))) (sym ((same_addr (first_word text)).read))
+    (by (is_all_spaces (after_word text)) (spelled_cell (first_word text)))) k
   where
     by : (b : Bool) (o : Option Cell) → IsReadAs (made (both o (ended b)) (λ v. Formula v.0)) (if b then of_operand (read_any o) (λ at. Ok (Formula (cell at))) else Err refusal.BadCommand)
     by false None = unknown
     by false (Some c) = unknown
     by true None = unknown
-    by true (Some c) = of_cell c (λ c. Formula c) (λ o s. outside_first s (Formula c) (λ h. h) (λ h. h) (λ h. h) (or-false _ ∙ o)) (λ o. (or-false _ ∙ o, refl))
-
-pub formula_so : (text : Bytes) (r : Read) → IsReading (formula_text text) r → IsRead (spelled formula_form text) r
-formula_so text r k = read_as (spelled formula_form text) (formula_text text) r (formula_read text) k
+    by true (Some c) = of_read (λ c. Formula c) c cell (address c) (is_outside c) (λ o s. outside_first s (Formula c) (λ h. h) (λ h. h) (λ h. h) (or-false _ ∙ o)) (λ o. (or-false _ ∙ o, refl))
 
 set_out : (force b : Bool) (c : Cell) (text : Bytes) → is_outside c ≡ b → list_any lies_outside (form (Set force c text)) ≡ b
 set_out true b c text e = or-false _ ∙ e
@@ -114,16 +101,17 @@ set_out false b c text e = or-false _ ∙ e
 abbrev pub set_text : Bool → Bytes → Reading
 set_text force text = if length (after_word text) == 0 then Err refusal.BadCommand else of_operand (read_address (first_word text)) (λ at. Ok (Set force (cell at) (after_word text)))
 
-set_read : (force : Bool) (text : Bytes) → IsReadAs (spelled (set_form force) text) (set_text force text)
+pub set_so : (force : Bool) (text : Bytes) (r : Read) → IsReading (set_text force text) r → IsRead (spelled (set_form force) text) r
 unfolding spelled
-set_read force text =
-    subst (λ (w : Result ℕ AddressFault). IsReadAs (spelled (set_form force) text) (if length (after_word text) == 0 then Err refusal.BadCommand else of_operand w (λ at. Ok (Set force (cell at) (after_word text))))) (sym ((same_addr (first_word text)).read))
-    (by (after_word text) (spelled_cell (first_word text)))
+set_so force text r k =
+    read_as (spelled (set_form force) text) (set_text force text) r
+    (subst (λ (w : Result ℕ AddressFault). IsReadAs (spelled (set_form force) text) (if length (after_word text) == 0 then Err refusal.BadCommand else of_operand w (λ at. Ok (Set force (cell at) (after_word text))))) (sym ((same_addr (first_word text)).read))
+    (by (after_word text) (spelled_cell (first_word text)))) k
   where
     full : (x : ℕ) (xs : Bytes) (o : Option Cell) → IsReadAs (made (both o (Some (x ∷ xs))) (λ v. Set force v.0 v.1)) (of_operand (read_any o) (λ at. Ok (Set force (cell at) (x ∷ xs))))
     full x xs None = unknown
     full x xs (Some c) =
-        of_cell c (λ c. Set force c (x ∷ xs)) (λ o s. outside_first s (Set force c (x ∷ xs)) (λ h. h) (λ h. h) (λ h. h) (set_out force true c (x ∷ xs) o)) (λ o. (set_out force false c (x ∷ xs) o, refl))
+        of_read (λ c. Set force c (x ∷ xs)) c cell (address c) (is_outside c) (λ o s. outside_first s (Set force c (x ∷ xs)) (λ h. h) (λ h. h) (λ h. h) (set_out force true c (x ∷ xs) o)) (λ o. (set_out force false c (x ∷ xs) o, refl))
 
     by : (t : Bytes) (o : Option Cell) → IsReadAs (made (both o (Some t)) (λ v. Set force v.0 v.1)) (if length t == 0 then Err refusal.BadCommand else of_operand (read_any o) (λ at. Ok (Set force (cell at) t)))
     by [] None = unknown
@@ -132,26 +120,21 @@ set_read force text =
         let some : (length (x ∷ xs) == 0) ≡ false = grind (arith, nat_tests) in
         subst (λ (b : Bool). IsReadAs (made (both o (Some (x ∷ xs))) (λ v. Set force v.0 v.1)) (if b then Err refusal.BadCommand else of_operand (read_any o) (λ at. Ok (Set force (cell at) (x ∷ xs))))) (sym some) (full x xs o)
 
-pub set_so : (force : Bool) (text : Bytes) (r : Read) → IsReading (set_text force text) r → IsRead (spelled (set_form force) text) r
-set_so force text r k = read_as (spelled (set_form force) text) (set_text force text) r (set_read force text) k
-
 abbrev pub scenario_text : Bytes → Reading
 scenario_text text = of_name (read_name (first_word text)) (λ name. of_operand (read_address (first_word (after_word text))) (λ at. Ok (Scenario name (cell at) (after_word (after_word text)))))
 
-scenario_read : (text : Bytes) → IsReadAs (spelled scenario_form text) (scenario_text text)
+pub scenario_so : (text : Bytes) (r : Read) → IsReading (scenario_text text) r → IsRead (spelled scenario_form text) r
 unfolding spelled
-scenario_read text =
-    subst (λ (w : Result ℕ AddressFault). IsReadAs (spelled scenario_form text) (of_name (read_name (first_word text)) (λ name. of_operand w (λ at. Ok (Scenario name (cell at) (after_word (after_word text)))))))
-    (sym ((same_addr (first_word (after_word text))).read)) (by (after_word (after_word text)) (read_name (first_word text)) (spelled_cell (first_word (after_word text))))
+scenario_so text r k =
+    read_as (spelled scenario_form text) (scenario_text text) r
+    (subst (λ (w : Result ℕ AddressFault). IsReadAs (spelled scenario_form text) (of_name (read_name (first_word text)) (λ name. of_operand w (λ at. Ok (Scenario name (cell at) (after_word (after_word text)))))))
+    (sym ((same_addr (first_word (after_word text))).read)) (by (after_word (after_word text)) (read_name (first_word text)) (spelled_cell (first_word (after_word text))))) k
   where
     by : (t : Bytes) (n : Option Bytes) (o : Option Cell) → IsReadAs (made (both n (both o (Some t))) (λ v. Scenario v.0 v.1.0 v.1.1)) (of_name n (λ name. of_operand (read_any o) (λ at. Ok (Scenario name (cell at) t))))
     by t None o = unknown
     by t (Some name) None = unknown
     by t (Some name) (Some c) =
-        of_cell c (λ c. Scenario name c t) (λ o s. outside_first s (Scenario name c t) (λ h. h) (λ h. h) (λ h. h) (or-false _ ∙ o)) (λ o. (or-false _ ∙ o, refl))
-
-pub scenario_so : (text : Bytes) (r : Read) → IsReading (scenario_text text) r → IsRead (spelled scenario_form text) r
-scenario_so text r k = read_as (spelled scenario_form text) (scenario_text text) r (scenario_read text) k
+        of_read (λ c. Scenario name c t) c cell (address c) (is_outside c) (λ o s. outside_first s (Scenario name c t) (λ h. h) (λ h. h) (λ h. h) (or-false _ ∙ o)) (λ o. (or-false _ ∙ o, refl))
 
 -- ---- names
 
@@ -187,9 +170,11 @@ may_read b c o = if b then Some None else option_map (λ (n : Bytes). Some n) (i
 abbrev pub use_text : Bytes → Reading
 use_text text = of_name (name_or_none text) (λ name. Ok (Use name))
 
-use_read : (text : Bytes) → IsReadAs (spelled use_form text) (use_text text)
+pub use_so : (text : Bytes) (r : Read) → IsReading (use_text text) r → IsRead (spelled use_form text) r
 unfolding spelled
-use_read text = by (is_all_spaces text) (is_all_spaces (after_word text)) (read_name (first_word text))
+use_so text r k =
+    read_as (spelled use_form text) (use_text text) r
+    (by (is_all_spaces text) (is_all_spaces (after_word text)) (read_name (first_word text))) k
   where
     by : (b c : Bool) (o : Option Bytes) → IsReadAs (made (may b c o) use_form.make) (of_name (may_read b c o) (λ name. Ok (Use name)))
     by true c o = (refl, refl)
@@ -198,15 +183,14 @@ use_read text = by (is_all_spaces text) (is_all_spaces (after_word text)) (read_
     by false true None = unknown
     by false true (Some n) = (refl, refl)
 
-pub use_so : (text : Bytes) (r : Read) → IsReading (use_text text) r → IsRead (spelled use_form text) r
-use_so text r k = read_as (spelled use_form text) (use_text text) r (use_read text) k
-
 abbrev pub base_text : Bytes → Reading
 base_text text = of_name (read_name (first_word text)) (λ name. of_name (name_or_none (after_word text)) (λ other. Ok (Base name other)))
 
-base_read : (text : Bytes) → IsReadAs (spelled base_form text) (base_text text)
+pub base_so : (text : Bytes) (r : Read) → IsReading (base_text text) r → IsRead (spelled base_form text) r
 unfolding spelled
-base_read text = by (read_name (first_word text)) (is_all_spaces (after_word text)) (is_all_spaces (after_word (after_word text))) (read_name (first_word (after_word text)))
+base_so text r k =
+    read_as (spelled base_form text) (base_text text) r
+    (by (read_name (first_word text)) (is_all_spaces (after_word text)) (is_all_spaces (after_word (after_word text))) (read_name (first_word (after_word text)))) k
   where
     by : (p : Option Bytes) (b c : Bool) (o : Option Bytes) → IsReadAs (made (both p (may b c o)) base_form.make) (of_name p (λ name. of_name (may_read b c o) (λ other. Ok (Base name other))))
     by None b c o = unknown
@@ -216,22 +200,18 @@ base_read text = by (read_name (first_word text)) (is_all_spaces (after_word tex
     by (Some n) false true None = unknown
     by (Some n) false true (Some m) = (refl, refl)
 
-pub base_so : (text : Bytes) (r : Read) → IsReading (base_text text) r → IsRead (spelled base_form text) r
-base_so text r k = read_as (spelled base_form text) (base_text text) r (base_read text) k
-
 abbrev pub changes_text : Bytes → Reading
 changes_text text = at_end text (Ok Changes)
 
-changes_read : (text : Bytes) → IsReadAs (spelled changes_form text) (changes_text text)
+pub changes_so : (text : Bytes) (r : Read) → IsReading (changes_text text) r → IsRead (spelled changes_form text) r
 unfolding spelled
-changes_read text = by (is_all_spaces text)
+changes_so text r k =
+    read_as (spelled changes_form text) (changes_text text) r
+    (by (is_all_spaces text)) k
   where
     by : (b : Bool) → IsReadAs (made (ended b) (λ v. Changes)) (if b then Ok Changes else Err refusal.BadCommand)
     by true = (refl, refl)
     by false = unknown
-
-pub changes_so : (text : Bytes) (r : Read) → IsReading (changes_text text) r → IsRead (spelled changes_form text) r
-changes_so text r k = read_as (spelled changes_form text) (changes_text text) r (changes_read text) k
 
 -- ---- several operands
 
@@ -243,12 +223,13 @@ compare_text text =
     at_end (after_word (after_word (after_word text)))
     (compare_words (first_word text) (first_word (after_word text)) (first_word (after_word (after_word text))))
 
-compare_read : (text : Bytes) → IsReadAs (spelled compare_form text) (compare_text text)
+pub compare_so : (text : Bytes) (r : Read) → IsReading (compare_text text) r → IsRead (spelled compare_form text) r
 unfolding spelled
-compare_read text =
-    subst (λ (w : Result Area AddressFault). IsReadAs (spelled compare_form text) (at_end (after_word (after_word (after_word text))) (of_name (read_side (first_word text)) (λ s. of_name (read_side (first_word (after_word text))) (λ t. of_operand w (λ a. Ok (Compare s t (corners a))))))))
+compare_so text r k =
+    read_as (spelled compare_form text) (compare_text text) r
+    (subst (λ (w : Result Area AddressFault). IsReadAs (spelled compare_form text) (at_end (after_word (after_word (after_word text))) (of_name (read_side (first_word text)) (λ s. of_name (read_side (first_word (after_word text))) (λ t. of_operand w (λ a. Ok (Compare s t (corners a))))))))
     (sym ((same_rect (first_word (after_word (after_word text)))).read))
-    (by (is_all_spaces (after_word (after_word (after_word text)))) (read_side (first_word text)) (read_side (first_word (after_word text))) (spelled_rect (first_word (after_word (after_word text)))))
+    (by (is_all_spaces (after_word (after_word (after_word text)))) (read_side (first_word text)) (read_side (first_word (after_word text))) (spelled_rect (first_word (after_word (after_word text)))))) k
   where
     by : (b : Bool) (p q : Option (Option Bytes)) (o : Option CornerCells)
         → IsReadAs (made (both p (both q (both o (ended b)))) (λ v. Compare v.0 v.1.0 v.1.1.0))
@@ -261,20 +242,18 @@ compare_read text =
     by false (Some s) (Some t) (Some r) = unknown
     by true (Some s) (Some t) None = unknown
     by true (Some s) (Some t) (Some r) =
-        of_rect r (λ r. Compare s t r) (λ o u. compare_step u s t r true (is_large r) (lacks u.scenarios s || lacks u.scenarios t) o refl refl) (λ o. (or-false _ ∙ o, refl))
-
-pub compare_so : (text : Bytes) (r : Read) → IsReading (compare_text text) r → IsRead (spelled compare_form text) r
-compare_so text r k = read_as (spelled compare_form text) (compare_text text) r (compare_read text) k
+        of_read (λ r. Compare s t r) r corners (area r) (lies_out r) (λ o u. compare_step u s t r true (is_large r) (lacks u.scenarios s || lacks u.scenarios t) o refl refl) (λ o. (or-false _ ∙ o, refl))
 
 abbrev pub fill_text : Bool → Bytes → Reading
 fill_text force text = at_end (after_word (after_word text)) (fill_of force (read_address (first_word text)) (read_rect (first_word (after_word text))))
 
-fill_read : (force : Bool) (text : Bytes) → IsReadAs (spelled (fill_form force) text) (fill_text force text)
+pub fill_so : (force : Bool) (text : Bytes) (r : Read) → IsReading (fill_text force text) r → IsRead (spelled (fill_form force) text) r
 unfolding spelled
-fill_read force text =
-    subst₂ (λ (v : Result ℕ AddressFault) (w : Result Area AddressFault). IsReadAs (spelled (fill_form force) text) (at_end (after_word (after_word text)) (fill_of force v w)))
+fill_so force text r k =
+    read_as (spelled (fill_form force) text) (fill_text force text) r
+    (subst₂ (λ (v : Result ℕ AddressFault) (w : Result Area AddressFault). IsReadAs (spelled (fill_form force) text) (at_end (after_word (after_word text)) (fill_of force v w)))
     (sym ((same_addr (first_word text)).read)) (sym ((same_rect (first_word (after_word text))).read))
-    (by (is_all_spaces (after_word (after_word text))) (spelled_cell (first_word text)) (spelled_rect (first_word (after_word text))))
+    (by (is_all_spaces (after_word (after_word text))) (spelled_cell (first_word text)) (spelled_rect (first_word (after_word text))))) k
   where
     inside : (c : Cell) (r : CornerCells) (x y : Bool) → is_outside c ≡ x → lies_out r ≡ y → IsReadAs (Fill force c r) (fill_of force (read_by x (address c)) (read_by y (area r)))
     inside c r true true e g = λ s. fill_out s force c r true true e g refl
@@ -294,9 +273,6 @@ fill_read force text =
     by true (Some c) None = no_area (address c) (is_outside c)
     by true (Some c) (Some r) = inside c r (is_outside c) (lies_out r) refl refl
 
-pub fill_so : (force : Bool) (text : Bytes) (r : Read) → IsReading (fill_text force text) r → IsRead (spelled (fill_form force) text) r
-fill_so force text r k = read_as (spelled (fill_form force) text) (fill_text force text) r (fill_read force text) k
-
 -- ---- table
 
 no_more : {X Y : Type 0} (o : Option X) → both o (let p : Option Y = None in p) ≡ None
@@ -315,43 +291,41 @@ none_of_it (Some f) None xs = refl
 none_of_it (Some f) (Some r) None = refl
 none_of_it (Some f) (Some r) (Some xs) = refl
 
-one : (f r : Option Cell) (xs : Option CornerCells) → IsReadAs (table_of f r xs (Some None)) (table_of_one (read_any f) (read_any r) (read_any_area xs))
-one f r xs = by f r xs (λ h. one_as (read_any f) (read_any r) (read_any_area xs) (Some Shape) h)
-  where
-    by : (f r : Option Cell) (xs : Option CornerCells) → (worst (one_faults (read_any f) (read_any r) (read_any_area xs)) ≡ Some Shape → table_of_one (read_any f) (read_any r) (read_any_area xs) ≡ Err refusal.BadCommand)
-        → IsReadAs (table_of f r xs (Some None)) (table_of_one (read_any f) (read_any r) (read_any_area xs))
-    by None r xs refuses = bad _ _ (refuses (has_shape [] (result_err (read_any r) ∷ line_fault is_column (read_any_area xs) ∷ []))) refl
-    by (Some f) None xs refuses = bad _ _ (refuses (has_shape (result_err (read_cell f) ∷ []) (line_fault is_column (read_any_area xs) ∷ []))) refl
-    by (Some f) (Some r) None refuses = bad _ _ (refuses (has_shape (result_err (read_cell f) ∷ result_err (read_cell r) ∷ []) [])) refl
-    by (Some f) (Some r) (Some xs) refuses = one_read f r xs
+-- a second input and its row, as words and as read
+abbrev Words : Type 0
+Words = Option (Option Cell × Option CornerCells)
 
-two : (f r : Option Cell) (xs : Option CornerCells) (c : Option Cell) (ys : Option CornerCells)
-    → IsReadAs (table_of f r xs (option_map (λ v. Some v) (both c (both ys (ended true))))) (table_of_two (read_any f) (read_any r) (read_any_area xs) (read_any c) (read_any_area ys))
-two f r xs c ys = by f r xs c ys (λ h. two_as (read_any f) (read_any r) (read_any_area xs) (read_any c) (read_any_area ys) (Some Shape) h)
+abbrev second_of : Words → Option Second
+second_of None = Some None
+second_of (Some y) = option_map (λ v. Some v) (both y.0 (both y.1 (ended true)))
+
+abbrev read_of : Words → Option (Result ℕ AddressFault × Result Area AddressFault)
+read_of None = None
+read_of (Some y) = Some (read_any y.0, read_any_area y.1)
+
+table_words : (f r : Option Cell) (xs : Option CornerCells) (y : Words) → IsReadAs (table_of f r xs (second_of y)) (table_reading (read_any f) (read_any r) (read_any_area xs) (read_of y))
+table_words f r xs y = by f r xs y (table_as (read_any f) (read_any r) (read_any_area xs) (read_of y) (Some Shape))
   where
-    by : (f r : Option Cell) (xs : Option CornerCells) (c : Option Cell) (ys : Option CornerCells)
-        → (worst (two_faults (read_any f) (read_any r) (read_any_area xs) (read_any c) (read_any_area ys)) ≡ Some Shape
-        → table_of_two (read_any f) (read_any r) (read_any_area xs) (read_any c) (read_any_area ys) ≡ Err refusal.BadCommand)
-        → IsReadAs (table_of f r xs (option_map (λ v. Some v) (both c (both ys (ended true))))) (table_of_two (read_any f) (read_any r) (read_any_area xs) (read_any c) (read_any_area ys))
-    by None r xs c ys refuses =
-        bad _ _ (refuses (has_shape [] (result_err (read_any r) ∷ line_fault is_column (read_any_area xs) ∷ result_err (read_any c) ∷ line_fault is_row (read_any_area ys) ∷ []))) refl
-    by (Some f) None xs c ys refuses =
-        bad _ _ (refuses (has_shape (result_err (read_cell f) ∷ []) (line_fault is_column (read_any_area xs) ∷ result_err (read_any c) ∷ line_fault is_row (read_any_area ys) ∷ []))) refl
-    by (Some f) (Some r) None c ys refuses =
-        bad _ _ (refuses (has_shape (result_err (read_cell f) ∷ result_err (read_cell r) ∷ []) (result_err (read_any c) ∷ line_fault is_row (read_any_area ys) ∷ []))) refl
-    by (Some f) (Some r) (Some xs) None ys refuses =
-        bad _ _ (refuses (has_shape (result_err (read_cell f) ∷ result_err (read_cell r) ∷ line_fault is_column (read_area xs) ∷ []) (line_fault is_row (read_any_area ys) ∷ []))) refl
-    by (Some f) (Some r) (Some xs) (Some c) None refuses =
-        bad _ _ (refuses (has_shape (result_err (read_cell f) ∷ result_err (read_cell r) ∷ line_fault is_column (read_area xs) ∷ result_err (read_cell c) ∷ []) [])) refl
-    by (Some f) (Some r) (Some xs) (Some c) (Some ys) refuses = two_read f r xs c ys
+    by : (f r : Option Cell) (xs : Option CornerCells) (y : Words)
+        → (worst (faults (read_any f) (read_any r) (read_any_area xs) (read_of y)) ≡ Some Shape → table_reading (read_any f) (read_any r) (read_any_area xs) (read_of y) ≡ Err refusal.BadCommand)
+        → IsReadAs (table_of f r xs (second_of y)) (table_reading (read_any f) (read_any r) (read_any_area xs) (read_of y))
+    by None r xs y bent = bad _ _ (bent (has_shape [] (result_err (read_any r) ∷ line_fault is_column (read_any_area xs) ∷ faults_behind (read_of y)))) refl
+    by (Some f) None xs y bent = bad _ _ (bent (has_shape (result_err (read_cell f) ∷ []) (line_fault is_column (read_any_area xs) ∷ faults_behind (read_of y)))) refl
+    by (Some f) (Some r) None y bent = bad _ _ (bent (has_shape (result_err (read_cell f) ∷ result_err (read_cell r) ∷ []) (faults_behind (read_of y)))) refl
+    by (Some f) (Some r) (Some xs) None bent = table_read f r xs None
+    by (Some f) (Some r) (Some xs) (Some (None, ys)) bent =
+        bad _ _ (bent (has_shape (result_err (read_cell f) ∷ result_err (read_cell r) ∷ line_fault is_column (read_area xs) ∷ []) (line_fault is_row (read_any_area ys) ∷ []))) refl
+    by (Some f) (Some r) (Some xs) (Some (Some c, None)) bent =
+        bad _ _ (bent (has_shape (result_err (read_cell f) ∷ result_err (read_cell r) ∷ line_fault is_column (read_area xs) ∷ result_err (read_cell c) ∷ []) [])) refl
+    by (Some f) (Some r) (Some xs) (Some (Some c, Some ys)) bent = table_read f r xs (Some (c, ys))
 
 abbrev reading_behind : Bool → Bool → Result ℕ AddressFault → Result ℕ AddressFault → Result Area AddressFault → Result ℕ AddressFault → Result Area AddressFault → Reading
 reading_behind b g f r xs c ys = if b then table_of_one f r xs else (if g then table_of_two f r xs c ys else Err refusal.BadCommand)
 
 behind : (b g : Bool) (f r : Option Cell) (xs : Option CornerCells) (c : Option Cell) (ys : Option CornerCells)
     → IsReadAs (table_of f r xs (if b then Some None else option_map (λ v. Some v) (both c (both ys (ended g))))) (reading_behind b g (read_any f) (read_any r) (read_any_area xs) (read_any c) (read_any_area ys))
-behind true g f r xs c ys = one f r xs
-behind false true f r xs c ys = two f r xs c ys
+behind true g f r xs c ys = table_words f r xs None
+behind false true f r xs c ys = table_words f r xs (Some (c, ys))
 behind false false f r xs c ys =
     bad _ _ refl (ap (λ (o : Option (Cell × (CornerCells × Unit {0}))). table_of f r xs (option_map (λ v. Some v) o)) (ap (λ (o : Option (CornerCells × Unit {0})). both c o) (no_more ys) ∙ no_more c) ∙ none_of_it f r xs)
 
@@ -359,9 +333,9 @@ abbrev pub table_text : Bytes → Reading
 table_text text =
     table_behind (read_address (first_word text)) (read_address (first_word (after_word text))) (read_rect (first_word (after_word (after_word text)))) (after_word (after_word (after_word text)))
 
-table_read : (text : Bytes) → IsReadAs (spelled table_form text) (table_text text)
+pub table_so : (text : Bytes) (r : Read) → IsReading (table_text text) r → IsRead (spelled table_form text) r
 unfolding spelled
-table_read text =
+table_so text r k =
     let v = first_word text in
     let w = first_word (after_word text) in
     let x = first_word (after_word (after_word text)) in
@@ -375,7 +349,5 @@ table_read text =
     ap (λ (k : Result ℕ AddressFault). reading_behind b g k (read_address w) (read_rect x) (read_address y) (read_rect z)) ((same_addr v).read)
     ∙ ap₂ (λ (k : Result ℕ AddressFault) (l : Result Area AddressFault). reading_behind b g (read_any (spelled_cell v)) k l (read_address y) (read_rect z)) ((same_addr w).read) ((same_rect x).read)
     ∙ ap₂ (λ (k : Result ℕ AddressFault) (l : Result Area AddressFault). reading_behind b g (read_any (spelled_cell v)) (read_any (spelled_cell w)) (read_any_area (spelled_rect x)) k l) ((same_addr y).read) ((same_rect z).read) in
-    subst (λ (u : Reading). IsReadAs (spelled table_form text) u) (sym same) (behind b g (spelled_cell v) (spelled_cell w) (spelled_rect x) (spelled_cell y) (spelled_rect z))
-
-pub table_so : (text : Bytes) (r : Read) → IsReading (table_text text) r → IsRead (spelled table_form text) r
-table_so text r k = read_as (spelled table_form text) (table_text text) r (table_read text) k
+    read_as (spelled table_form text) (table_text text) r
+    (subst (λ (u : Reading). IsReadAs (spelled table_form text) u) (sym same) (behind b g (spelled_cell v) (spelled_cell w) (spelled_rect x) (spelled_cell y) (spelled_rect z))) k

@@ -7,7 +7,7 @@ use Rattle.wi_scenarios.proofs.ClearSteps.{cleared, clear_outside, clear_step, c
 use Rattle.wi_scenarios.proofs.FillSteps.{fill_edit, leaves, filled_by, fill_outside, fill_step, fill_of}
 use Rattle.wi_scenarios.proofs.LookSteps.{area_answer, shown_in, show_step, show_of, exported_in, export_step, export_of_area, compared_in, compare_step, compare_of}
 use Rattle.wi_cli.proofs.Ties.Cells.{lies_out, cell_again}
-use Rattle.wi_cli.proofs.Ties.Tables.{is_large, table_spans, table_of_two_spans}
+use Rattle.wi_cli.proofs.Ties.Tables.{is_large, table_spans}
 
 module _ (s : State) where
   -- where one answer is that of both
@@ -42,7 +42,7 @@ module _ (s : State) where
       let lacking = lacks s.scenarios p || lacks s.scenarios q in
       same_answer (Compare p q r) (Compare p q (corners (area r))) (area_answer false (is_large r) lacking (compared_in s p q r (area r))) (compare_step s p q r false (is_large r) lacking o refl refl)
       (compare_of s (area r) (spanned_again r o) (is_large r) refl p q lacking refl) a h
-  spans (Table f r xs None) e a h = table_spans f r xs s e a h
-  spans (Table f r xs (Some y)) e a h = table_of_two_spans f r xs y.0 y.1 s e a h
+  spans (Table f r xs None) e a h = table_spans f r xs None s e a h
+  spans (Table f r xs (Some y)) e a h = table_spans f r xs (Some y) s e a h
   spans (Formula at) e a h = subst (λ (x : Cell). IsStep s (Formula x) a) (cell_again at (or_parts (is_outside at) false e).0) h
   spans c e a h = h

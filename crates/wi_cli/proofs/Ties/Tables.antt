@@ -1,11 +1,12 @@
 -- As what `table` is read, with one input and with two, and its step.
-use Rattle.wi_cli.proofs.Vocabulary.{◌≡◌, ◌<◌, ◌*◌, ℕ, min, max, Bool, true, false, not, ◌||◌, ◌&&◌, ◌==◌, nat_lt, List, [], ◌∷◌, Option, Some, None, Result, if◌then◌else◌, refl, sym, ap, ◌∙◌, subst, arith, nat_tests, list_any, result_err, or_parts, both_ways, or-false, Area, columns, row_of, column_of, size_of, AddressFault, Shape, row_of_place, column_of_place, State, max_area, is_column, is_row, of_operand, worse, line_fault, unless_refused, table_of_one, table_of_two, Cell, CornerCells, is_outside, address, area, Command, Table, Answer, read_by, Ok, ap₂, ◌++◌, or-true, Reading, IsReadAs, IsStep, placed}
+use Rattle.wi_cli.proofs.Vocabulary.{◌≡◌, ◌<◌, ◌*◌, ℕ, min, max, Bool, true, false, not, ◌||◌, ◌&&◌, ◌==◌, nat_lt, List, [], ◌∷◌, Option, Some, None, Result, if◌then◌else◌, refl, sym, ap, ◌∙◌, subst, arith, nat_tests, list_any, result_err, or_parts, both_ways, or-false, Area, columns, row_of, column_of, size_of, AddressFault, Shape, row_of_place, column_of_place, State, max_area, is_column, is_row, of_operand, worse, line_fault, unless_refused, table_of_one, table_of_two, Cell, CornerCells, is_outside, lies_outside, form, address, area, Table, Answer, read_by, Ok, ap₂, ◌++◌, or-true, Reading, IsReadAs, IsStep, placed}
 use Rattle.wi_values.specs.declared.address.AddressFault.TheVariants.{Outside as AtOutside}
-use Rattle.wi_scenarios.specs.declared.refusal.Refusal.TheVariants as refusal
-use Rattle.wi_scenarios.specs.Commands.Operands.{cell, corners}
+use Rattle.wi_scenarios.specs.Commands.Operands.{cell, corners, second_input}
+use Rattle.wi_scenarios.specs.Commands.Causes.{cells_asked}
+use Rattle.wi_reports.specs.Inner.Shape.{has_row, entries}
 use Rattle.wi_scenarios.specs.Inner.Placed.{IsTablePlaced}
 use Rattle.wi_scenarios.proofs.OperandLemmas.{placed_again, spanned_again}
-use Rattle.wi_scenarios.proofs.TableSteps.{table_answer, tabled, table_step, table_by}
+use Rattle.wi_scenarios.proofs.TableSteps.{is_misshaped, addresses, table_step, table_by}
 use Rattle.wi_scenarios.proofs.StepLemmas.{no_other}
 use Rattle.wi_cli.proofs.Ties.Cells.{lies_out, read_cell, read_area, inside}
 
@@ -86,27 +87,31 @@ any_is test (o ∷ os) (b ∷ bs) h = ap₂ ◌||◌ h.0 (any_is test os bs h.1)
 any_is test [] (b ∷ bs) h = absurd h
 any_is test (o ∷ os) [] h = absurd h
 
--- a table of these operands, by the worst of their faults
-abbrev pub one_faults : Result ℕ AddressFault → Result ℕ AddressFault → Result Area AddressFault → List (Option AddressFault)
-one_faults f r xs = result_err f ∷ result_err r ∷ line_fault is_column xs ∷ []
+-- a table of these operands, with a second input and its row or without, by the worst of their faults
+abbrev pub faults_behind : Option (Result ℕ AddressFault × Result Area AddressFault) → List (Option AddressFault)
+faults_behind None = []
+faults_behind (Some y) = result_err y.0 ∷ line_fault is_row y.1 ∷ []
 
-pub one_as : (f r : Result ℕ AddressFault) (xs : Result Area AddressFault) (o : Option AddressFault) → worst (one_faults f r xs) ≡ o
-    → table_of_one f r xs ≡ unless_refused o (of_operand f (λ f. of_operand r (λ r. of_operand xs (λ xs. Ok (Table (cell f) (cell r) (corners xs) None)))))
-one_as f r xs o e =
-    let command : Reading = of_operand f (λ f. of_operand r (λ r. of_operand xs (λ xs. Ok (Table (cell f) (cell r) (corners xs) None)))) in
-    ap (λ (y : Option AddressFault). unless_refused (worse (result_err f) (worse (result_err r) y)) command) (last_one (line_fault is_column xs))
-    ∙ ap (λ (w : Option AddressFault). unless_refused w command) e
+module _ (f r : Result ℕ AddressFault) (xs : Result Area AddressFault) where
+  abbrev pub faults : Option (Result ℕ AddressFault × Result Area AddressFault) → List (Option AddressFault)
+  faults y = result_err f ∷ result_err r ∷ line_fault is_column xs ∷ faults_behind y
 
-abbrev pub two_faults : Result ℕ AddressFault → Result ℕ AddressFault → Result Area AddressFault → Result ℕ AddressFault → Result Area AddressFault → List (Option AddressFault)
-two_faults f r xs c ys = result_err f ∷ result_err r ∷ line_fault is_column xs ∷ result_err c ∷ line_fault is_row ys ∷ []
+  abbrev pub table_reading : Option (Result ℕ AddressFault × Result Area AddressFault) → Reading
+  table_reading None = table_of_one f r xs
+  table_reading (Some y) = table_of_two f r xs y.0 y.1
 
-pub two_as : (f r : Result ℕ AddressFault) (xs : Result Area AddressFault) (c : Result ℕ AddressFault) (ys : Result Area AddressFault) (o : Option AddressFault) → worst (two_faults f r xs c ys) ≡ o
-    → table_of_two f r xs c ys
-    ≡ unless_refused o (of_operand f (λ f. of_operand r (λ r. of_operand xs (λ xs. of_operand c (λ c. of_operand ys (λ ys. Ok (Table (cell f) (cell r) (corners xs) (Some (cell c, corners ys)))))))))
-two_as f r xs c ys o e =
-    let command : Reading = of_operand f (λ f. of_operand r (λ r. of_operand xs (λ xs. of_operand c (λ c. of_operand ys (λ ys. Ok (Table (cell f) (cell r) (corners xs) (Some (cell c, corners ys)))))))) in
-    ap (λ (y : Option AddressFault). unless_refused (worse (result_err f) (worse (result_err r) (worse (line_fault is_column xs) (worse (result_err c) y)))) command) (last_one (line_fault is_row ys))
-    ∙ ap (λ (w : Option AddressFault). unless_refused w command) e
+  abbrev pub table_command : Option (Result ℕ AddressFault × Result Area AddressFault) → Reading
+  table_command None = of_operand f (λ f. of_operand r (λ r. of_operand xs (λ xs. Ok (Table (cell f) (cell r) (corners xs) None))))
+  table_command (Some y) =
+      of_operand f (λ f. of_operand r (λ r. of_operand xs (λ xs. of_operand y.0 (λ c. of_operand y.1 (λ ys. Ok (Table (cell f) (cell r) (corners xs) (Some (cell c, corners ys))))))))
+
+  pub table_as : (y : Option (Result ℕ AddressFault × Result Area AddressFault)) (o : Option AddressFault) → worst (faults y) ≡ o → table_reading y ≡ unless_refused o (table_command y)
+  table_as None o e =
+      ap (λ (w : Option AddressFault). unless_refused (worse (result_err f) (worse (result_err r) w)) (table_command None)) (last_one (line_fault is_column xs))
+      ∙ ap (λ (w : Option AddressFault). unless_refused w (table_command None)) e
+  table_as (Some y) o e =
+      ap (λ (w : Option AddressFault). unless_refused (worse (result_err f) (worse (result_err r) (worse (line_fault is_column xs) (worse (result_err y.0) w)))) (table_command (Some y))) (last_one (line_fault is_row y.1))
+      ∙ ap (λ (w : Option AddressFault). unless_refused w (table_command (Some y))) e
 
 -- one of these has the wrong shape
 pub has_shape : (front back : List (Option AddressFault)) → worst (front ++ (Some Shape ∷ back)) ≡ Some Shape
@@ -153,159 +158,93 @@ row_is ys ey =
     let high : row_of (area ys).last ≡ max ys.0.row ys.1.row = row_of_place _ _ (rw (c, d) (omega arith)) ∙ rw (e, f) refl in
     ap (λ (n : ℕ). n == row_of (area ys).last) low ∙ ap (λ (n : ℕ). min ys.0.row ys.1.row == n) high ∙ min_max ys.0.row ys.1.row
 
--- none of five holds
-none_of : (a b c d e : Bool) → (a || (b || (c || (d || (e || false))))) ≡ false → (a ≡ false) × (b ≡ false) × (c ≡ false) × (d ≡ false) × (e ≡ false)
-none_of true b c d e h = absurd (both_ways true h refl)
-none_of false true c d e h = absurd (both_ways true h refl)
-none_of false false true d e h = absurd (both_ways true h refl)
-none_of false false false true e h = absurd (both_ways true h refl)
-none_of false false false false e h = (refl, refl, refl, refl, (or_parts e false h).0)
+-- ---- as it is read, and its step
 
--- ---- two inputs
-
-module _ (f r : Cell) (xs : CornerCells) (c : Cell) (ys : CornerCells) where
-  abbrev table : Command
-  table = Table f r xs (Some (c, ys))
-
-  abbrev bent : Bool
-  bent = (not (lies_out xs) && not (xs.0.column == xs.1.column)) || (not (lies_out ys) && not (ys.0.row == ys.1.row))
-
-  abbrev out : Bool
-  out = is_outside f || (is_outside r || (lies_out xs || (is_outside c || (lies_out ys || false))))
-
-  abbrev is_many : Bool
-  is_many = nat_lt max_area (size_of (area xs) * (size_of (area ys) * 1))
-
-  abbrev faults : List (Option AddressFault)
-  faults = two_faults (read_cell f) (read_cell r) (read_area xs) (read_cell c) (read_area ys)
-
-  shapes : list_any is_shape faults ≡ bent
-  shapes =
-      let u = not (lies_out xs) && not (xs.0.column == xs.1.column) in
-      let v = not (lies_out ys) && not (ys.0.row == ys.1.row) in
-      any_is is_shape faults (false ∷ false ∷ u ∷ false ∷ v ∷ [])
-      (cell_shape (is_outside f) (address f), (cell_shape (is_outside r) (address r), (line_shape is_column (lies_out xs) (xs.0.column == xs.1.column) (area xs) (column_is xs), (cell_shape (is_outside c) (address c), (line_shape is_row (lies_out ys) (ys.0.row == ys.1.row) (area ys) (row_is ys), tt)))))
-      ∙ ap (λ (b : Bool). u || b) (or-false v)
-
-  outs : list_any is_out faults ≡ out
-  outs =
-      any_is is_out faults (is_outside f ∷ is_outside r ∷ lies_out xs ∷ is_outside c ∷ lies_out ys ∷ [])
-      (cell_out (is_outside f) (address f), (cell_out (is_outside r) (address r), (line_out is_column (lies_out xs) (area xs), (cell_out (is_outside c) (address c), (line_out is_row (lies_out ys) (area ys), tt)))))
-
-  abbrev command : Reading
-  command =
-      of_operand (read_cell f) (λ f. of_operand (read_cell r) (λ r. of_operand (read_area xs) (λ xs. of_operand (read_cell c) (λ c. of_operand (read_area ys) (λ ys. Ok (Table (cell f) (cell r) (corners xs) (Some (cell c, corners ys))))))))
-
-  abbrev reading : Reading
-  reading = table_of_two (read_cell f) (read_cell r) (read_area xs) (read_cell c) (read_area ys)
-
-  reading_is : (o : Option AddressFault) → worst faults ≡ o → reading ≡ unless_refused o command
-  reading_is o e = two_as (read_cell f) (read_cell r) (read_area xs) (read_cell c) (read_area ys) o e
-
-  -- it is of the sheet, where nothing is outside
-  command_is : out ≡ false → command ≡ Ok (placed table)
-  command_is eo =
-      let k = none_of (is_outside f) (is_outside r) (lies_out xs) (is_outside c) (lies_out ys) eo in
-      by k.0 k.1 k.2 k.3 k.4
-    where
-      by : is_outside f ≡ false → is_outside r ≡ false → lies_out xs ≡ false → is_outside c ≡ false → lies_out ys ≡ false → command ≡ Ok (placed table)
-      by ef er ex ec ey = rw (ef, er, ex, ec, ey) refl
-
-  by_operands : (b o : Bool) → bent ≡ b → out ≡ o → IsReadAs table reading
-  by_operands true o eb eo =
-      subst (λ (w : Reading). IsReadAs table w) (sym (reading_is (Some Shape) (shape_first faults (shapes ∙ eb)))) (λ s. table_step s f r xs (Some (c, ys)) true o is_many eb eo refl)
-  by_operands false true eb eo =
-      subst (λ (w : Reading). IsReadAs table w) (sym (reading_is (Some AtOutside) (outside_next faults (shapes ∙ eb) (outs ∙ eo)))) (λ s. table_step s f r xs (Some (c, ys)) false true is_many eb eo refl)
-  by_operands false false eb eo =
-      subst (λ (w : Reading). IsReadAs table w) (sym (reading_is None (none_bad faults (shapes ∙ eb) (outs ∙ eo)) ∙ command_is eo)) (eo, refl)
-
-  pub two_read : IsReadAs table reading
-  two_read = by_operands bent out refl refl
-
-  -- what is bent is bent as a rectangle of the sheet
-  bent_is : lies_out xs ≡ false → lies_out ys ≡ false → (not (is_column (area xs)) || not (is_row (area ys))) ≡ bent
-  bent_is ex ey =
-      ap₂ (λ (a b : Bool). not a || not b) (column_is xs ex) (row_is ys ey)
-      ∙ ap₂ (λ (a b : Bool). (not a && not (xs.0.column == xs.1.column)) || (not b && not (ys.0.row == ys.1.row))) (sym ex) (sym ey)
-
-  pub table_of_two_spans : (s : State) → out ≡ false → (a : Answer) → IsStep s (placed table) a → IsStep s table a
-  table_of_two_spans s eo a h =
-      let k = none_of (is_outside f) (is_outside r) (lies_out xs) (is_outside c) (lies_out ys) eo in
-      let all : IsTablePlaced (address f) (address r) (area xs) (Some (address c, area ys)) =
-      record { formula_cell = placed_again f k.0; input = placed_again r k.1; column = spanned_again xs k.2; second = (placed_again c k.3, spanned_again ys k.4) } in
-      let own : IsStep s table (table_answer bent false is_many (tabled s (address f) (address r) (area xs) (Some (address c, area ys)))) = table_step s f r xs (Some (c, ys)) bent false is_many refl eo refl in
-      let of_sheet : IsStep s (placed table) (table_answer bent false is_many (tabled s (address f) (address r) (area xs) (Some (address c, area ys)))) =
-      table_by s (address f) (address r) (area xs) (Some (address c, area ys)) all bent is_many (bent_is k.2 k.4) (ap (λ (n : ℕ). nat_lt max_area (size_of (area xs) * n)) (once (size_of (area ys)))) in
-      subst (λ (x : Answer). IsStep s table x) (no_other s (placed table) _ a of_sheet h) own
-
--- ---- one input
+abbrev read_second : Option (Cell × CornerCells) → Option (Result ℕ AddressFault × Result Area AddressFault)
+read_second None = None
+read_second (Some y) = Some (read_cell y.0, read_area y.1)
 
 module _ (f r : Cell) (xs : CornerCells) where
-  abbrev one : Command
-  one = Table f r xs None
+  abbrev faults_of : Option (Cell × CornerCells) → List (Option AddressFault)
+  faults_of y = faults (read_cell f) (read_cell r) (read_area xs) (read_second y)
 
-  abbrev one_bent : Bool
-  one_bent = not (lies_out xs) && not (xs.0.column == xs.1.column)
+  abbrev reading : Option (Cell × CornerCells) → Reading
+  reading y = table_reading (read_cell f) (read_cell r) (read_area xs) (read_second y)
 
-  abbrev one_out : Bool
-  one_out = is_outside f || (is_outside r || (lies_out xs || false))
+  abbrev out : Option (Cell × CornerCells) → Bool
+  out y = list_any lies_outside (form (Table f r xs y))
 
-  abbrev one_many : Bool
-  one_many = nat_lt max_area (size_of (area xs) * 1)
+  abbrev is_many : Option (Cell × CornerCells) → Bool
+  is_many y = nat_lt max_area (cells_asked (form (Table f r xs y)))
 
-  abbrev faults_of_one : List (Option AddressFault)
-  faults_of_one = one_faults (read_cell f) (read_cell r) (read_area xs)
-
-  one_shapes : list_any is_shape faults_of_one ≡ one_bent
-  one_shapes =
-      any_is is_shape faults_of_one (false ∷ false ∷ one_bent ∷ [])
+  shapes : (y : Option (Cell × CornerCells)) → list_any is_shape (faults_of y) ≡ is_misshaped xs y
+  shapes None =
+      let u = not (lies_out xs) && not (xs.0.column == xs.1.column) in
+      any_is is_shape (faults_of None) (false ∷ false ∷ u ∷ [])
       (cell_shape (is_outside f) (address f), (cell_shape (is_outside r) (address r), (line_shape is_column (lies_out xs) (xs.0.column == xs.1.column) (area xs) (column_is xs), tt)))
-      ∙ or-false one_bent
+      ∙ or-false u
+  shapes (Some y) =
+      let u = not (lies_out xs) && not (xs.0.column == xs.1.column) in
+      let v = not (lies_out y.1) && not (y.1.0.row == y.1.1.row) in
+      any_is is_shape (faults_of (Some y)) (false ∷ false ∷ u ∷ false ∷ v ∷ [])
+      (cell_shape (is_outside f) (address f), (cell_shape (is_outside r) (address r), (line_shape is_column (lies_out xs) (xs.0.column == xs.1.column) (area xs) (column_is xs), (cell_shape (is_outside y.0) (address y.0), (line_shape is_row (lies_out y.1) (y.1.0.row == y.1.1.row) (area y.1) (row_is y.1), tt)))))
+      ∙ ap (λ (b : Bool). u || b) (or-false v)
 
-  one_outs : list_any is_out faults_of_one ≡ one_out
-  one_outs =
-      any_is is_out faults_of_one (is_outside f ∷ is_outside r ∷ lies_out xs ∷ [])
+  outs : (y : Option (Cell × CornerCells)) → list_any is_out (faults_of y) ≡ out y
+  outs None =
+      any_is is_out (faults_of None) (is_outside f ∷ is_outside r ∷ lies_out xs ∷ [])
       (cell_out (is_outside f) (address f), (cell_out (is_outside r) (address r), (line_out is_column (lies_out xs) (area xs), tt)))
+  outs (Some y) =
+      any_is is_out (faults_of (Some y)) (is_outside f ∷ is_outside r ∷ lies_out xs ∷ is_outside y.0 ∷ lies_out y.1 ∷ [])
+      (cell_out (is_outside f) (address f), (cell_out (is_outside r) (address r), (line_out is_column (lies_out xs) (area xs), (cell_out (is_outside y.0) (address y.0), (line_out is_row (lies_out y.1) (area y.1), tt)))))
 
-  abbrev one_command : Reading
-  one_command = of_operand (read_cell f) (λ f. of_operand (read_cell r) (λ r. of_operand (read_area xs) (λ xs. Ok (Table (cell f) (cell r) (corners xs) None))))
+  -- none of them is outside
+  inside_of : (rest : Bool) → (is_outside f || (is_outside r || (lies_out xs || rest))) ≡ false → (is_outside f ≡ false) × (is_outside r ≡ false) × (lies_out xs ≡ false) × (rest ≡ false)
+  inside_of rest e =
+      let p = or_parts (is_outside f) (is_outside r || (lies_out xs || rest)) e in
+      let q = or_parts (is_outside r) (lies_out xs || rest) p.1 in
+      let t = or_parts (lies_out xs) rest q.1 in
+      (p.0, q.0, t.0, t.1)
 
-  abbrev one_reading : Reading
-  one_reading = table_of_one (read_cell f) (read_cell r) (read_area xs)
+  second_inside : (c : Cell) (ys : CornerCells) → (is_outside c || (lies_out ys || false)) ≡ false → (is_outside c ≡ false) × (lies_out ys ≡ false)
+  second_inside c ys e = let p = or_parts (is_outside c) (lies_out ys || false) e in (p.0, (or_parts (lies_out ys) false p.1).0)
 
-  one_reading_is : (o : Option AddressFault) → worst faults_of_one ≡ o → one_reading ≡ unless_refused o one_command
-  one_reading_is o e = one_as (read_cell f) (read_cell r) (read_area xs) o e
+  -- it is of the sheet then
+  command_is : (y : Option (Cell × CornerCells)) → out y ≡ false → table_command (read_cell f) (read_cell r) (read_area xs) (read_second y) ≡ Ok (placed (Table f r xs y))
+  command_is None e = let k = inside_of false e in rw (k.0, k.1, k.2) refl
+  command_is (Some y) e = let k = inside_of (is_outside y.0 || (lies_out y.1 || false)) e in let l = second_inside y.0 y.1 k.3 in rw (k.0, k.1, k.2, l.0, l.1) refl
 
-  none_of_three : one_out ≡ false → (is_outside f ≡ false) × (is_outside r ≡ false) × (lies_out xs ≡ false)
-  none_of_three eo =
-      let p = or_parts (is_outside f) (is_outside r || (lies_out xs || false)) eo in
-      let q = or_parts (is_outside r) (lies_out xs || false) p.1 in
-      (p.0, q.0, (or_parts (lies_out xs) false q.1).0)
+  by_operands : (y : Option (Cell × CornerCells)) (b o : Bool) → is_misshaped xs y ≡ b → out y ≡ o → IsReadAs (Table f r xs y) (reading y)
+  by_operands y true o eb eo =
+      subst (λ (w : Reading). IsReadAs (Table f r xs y) w) (sym (table_as (read_cell f) (read_cell r) (read_area xs) (read_second y) (Some Shape) (shape_first (faults_of y) (shapes y ∙ eb))))
+      (λ s. table_step s f r xs y true o (is_many y) eb eo refl)
+  by_operands y false true eb eo =
+      subst (λ (w : Reading). IsReadAs (Table f r xs y) w) (sym (table_as (read_cell f) (read_cell r) (read_area xs) (read_second y) (Some AtOutside) (outside_next (faults_of y) (shapes y ∙ eb) (outs y ∙ eo))))
+      (λ s. table_step s f r xs y false true (is_many y) eb eo refl)
+  by_operands y false false eb eo =
+      subst (λ (w : Reading). IsReadAs (Table f r xs y) w) (sym (table_as (read_cell f) (read_cell r) (read_area xs) (read_second y) None (none_bad (faults_of y) (shapes y ∙ eb) (outs y ∙ eo)) ∙ command_is y eo)) (eo, refl)
 
-  one_command_is : one_out ≡ false → one_command ≡ Ok (placed one)
-  one_command_is eo = let k = none_of_three eo in by k.0 k.1 k.2
-    where
-      by : is_outside f ≡ false → is_outside r ≡ false → lies_out xs ≡ false → one_command ≡ Ok (placed one)
-      by ef er ex = rw (ef, er, ex) refl
+  pub table_read : (y : Option (Cell × CornerCells)) → IsReadAs (Table f r xs y) (reading y)
+  table_read y = by_operands y (is_misshaped xs y) (out y) refl refl
 
-  one_by_operands : (b o : Bool) → one_bent ≡ b → one_out ≡ o → IsReadAs one one_reading
-  one_by_operands true o eb eo =
-      subst (λ (w : Reading). IsReadAs one w) (sym (one_reading_is (Some Shape) (shape_first faults_of_one (one_shapes ∙ eb)))) (λ s. table_step s f r xs None true o one_many eb eo refl)
-  one_by_operands false true eb eo =
-      subst (λ (w : Reading). IsReadAs one w) (sym (one_reading_is (Some AtOutside) (outside_next faults_of_one (one_shapes ∙ eb) (one_outs ∙ eo)))) (λ s. table_step s f r xs None false true one_many eb eo refl)
-  one_by_operands false false eb eo =
-      subst (λ (w : Reading). IsReadAs one w) (sym (one_reading_is None (none_bad faults_of_one (one_shapes ∙ eb) (one_outs ∙ eo)) ∙ one_command_is eo)) (eo, refl)
+  -- a step of a table of the sheet
+  spans : (y : Option (Cell × CornerCells)) → IsTablePlaced (address f) (address r) (area xs) (addresses y) → (not (is_column (area xs)) || not (has_row (addresses y))) ≡ is_misshaped xs y
+      → nat_lt max_area (entries (area xs) (addresses y)) ≡ is_many y → (s : State) → out y ≡ false → (a : Answer)
+      → IsStep s (Table (cell (address f)) (cell (address r)) (corners (area xs)) (second_input (addresses y))) a → IsStep s (Table f r xs y) a
+  spans y all eb el s eo a h =
+      subst (λ (x : Answer). IsStep s (Table f r xs y) x)
+      (no_other s (Table (cell (address f)) (cell (address r)) (corners (area xs)) (second_input (addresses y))) _ a (table_by s (address f) (address r) (area xs) (addresses y) all (is_misshaped xs y) (is_many y) eb el) h)
+      (table_step s f r xs y (is_misshaped xs y) false (is_many y) refl eo refl)
 
-  pub one_read : IsReadAs one one_reading
-  one_read = one_by_operands one_bent one_out refl refl
-
-  pub table_spans : (s : State) → one_out ≡ false → (a : Answer) → IsStep s (placed one) a → IsStep s one a
-  table_spans s eo a h =
-      let k = none_of_three eo in
-      let all : IsTablePlaced (address f) (address r) (area xs) None = record { formula_cell = placed_again f k.0; input = placed_again r k.1; column = spanned_again xs k.2; second = tt } in
-      let same : (not (is_column (area xs)) || false) ≡ one_bent =
-      ap (λ (b : Bool). not b || false) (column_is xs k.2) ∙ or-false (not (xs.0.column == xs.1.column)) ∙ ap (λ (b : Bool). not b && not (xs.0.column == xs.1.column)) (sym k.2) in
-      let own : IsStep s one (table_answer one_bent false one_many (tabled s (address f) (address r) (area xs) None)) = table_step s f r xs None one_bent false one_many refl eo refl in
-      let of_sheet : IsStep s (placed one) (table_answer one_bent false one_many (tabled s (address f) (address r) (area xs) None)) =
-      table_by s (address f) (address r) (area xs) None all one_bent one_many same refl in
-      subst (λ (x : Answer). IsStep s one x) (no_other s (placed one) _ a of_sheet h) own
+  pub table_spans : (y : Option (Cell × CornerCells)) (s : State) → out y ≡ false → (a : Answer) → IsStep s (placed (Table f r xs y)) a → IsStep s (Table f r xs y) a
+  table_spans None s e a h =
+      let k = inside_of false e in
+      spans None (record { formula_cell = placed_again f k.0; input = placed_again r k.1; column = spanned_again xs k.2; second = tt })
+      (ap (λ (b : Bool). not b || false) (column_is xs k.2) ∙ or-false (not (xs.0.column == xs.1.column)) ∙ ap (λ (b : Bool). not b && not (xs.0.column == xs.1.column)) (sym k.2)) refl s e a h
+  table_spans (Some y) s e a h =
+      let k = inside_of (is_outside y.0 || (lies_out y.1 || false)) e in
+      let l = second_inside y.0 y.1 k.3 in
+      spans (Some y) (record { formula_cell = placed_again f k.0; input = placed_again r k.1; column = spanned_again xs k.2; second = (placed_again y.0 l.0, spanned_again y.1 l.1) })
+      (ap₂ (λ (a b : Bool). not a || not b) (column_is xs k.2) (row_is y.1 l.1)
+      ∙ ap₂ (λ (a b : Bool). (not a && not (xs.0.column == xs.1.column)) || (not b && not (y.1.0.row == y.1.1.row))) (sym k.2) (sym l.1))
+      (ap (λ (n : ℕ). nat_lt max_area (size_of (area xs) * n)) (once (size_of (area y.1)))) s e a h

@@ -20,6 +20,7 @@ use Rattle.wi_cli.specs.Lines.{raw_lines}
 use Rattle.wi_cli.specs.Reply.{MayLackMemory}
 use Rattle.wi_cli.specs.Inner.CsvCommand.{CsvLine, is_long}
 use Rattle.wi_cli.specs.Inner.Told.{RefusedAs}
+use Rattle.wi_cli.specs.Inner.Place.{Place}
 use Rattle.wi_cli.specs.Inner.Taken.{TookLines, BrokeLines}
 
 -- a line that asks for data lines, as it was read
@@ -52,16 +53,16 @@ pub record AddedTo (d d' : DataLines) (lines : List (List ℕ)) : Type 0 where
   pub held : (before : List (List ℕ)) → HoldsLines d before → HoldsLines d' (before ++ lines)
 
 -- Of the data lines that are asked for some were taken: none, where the source had nothing left before them.
-pub record TookData (asked : ℕ) (d : DataLines) (before whole : Bool) (buffer : List ℕ) (left : Option (List ℕ)) (buffer' : List ℕ) (left' : Option (List ℕ)) (count count' : ℕ) : Type 0 where
-  pub took : TookLines whole buffer left buffer' left' count count'
+pub record TookData (asked : ℕ) (d : DataLines) (before whole : Bool) (p q : Place) : Type 0 where
+  pub took : TookLines whole p q
   pub none_taken : before ≡ false → (whole ≡ false) × (took.lines ≡ []) × (took.last ≡ [])
   pub missing : length (took.lines ++ raw_lines took.last) + d.missing ≡ asked
   pub held : HoldsLines d (took.lines ++ raw_lines took.last)
 
 -- fewer than those were taken, and no more
-pub record BrokeData (asked : ℕ) (before : Bool) (fault : RunFault) (buffer : List ℕ) (left : Option (List ℕ)) (buffer' : List ℕ) (left' : Option (List ℕ)) (count : ℕ) : Type 0 where
+pub record BrokeData (asked : ℕ) (before : Bool) (fault : RunFault) (p q : Place) : Type 0 where
   pub came : before ≡ true
-  pub broke : BrokeLines fault buffer left buffer' left' count
+  pub broke : BrokeLines fault p q
   pub some_missing : length broke.lines < asked
 
 -- where the data lines of a line go that are not too long, or why they are refused

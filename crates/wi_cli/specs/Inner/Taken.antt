@@ -1,10 +1,9 @@
 -- Lines that were taken from the source.
-use Rattle.std.specs.Prelude.{◌≡◌, ℕ, ◌+◌, ◌≤◌, Bool, true, false, List, [], ◌∷◌, ◌++◌, length, filter, Option}
+use Rattle.std.specs.Prelude.{◌≡◌, ℕ, ◌+◌, ◌≤◌, Bool, true, false, List, [], ◌∷◌, ◌++◌, length, filter}
 use Rattle.std.specs.List.{concat}
-use Rattle.std.specs.Io.KnownBytes.{IsAtEnd, prepend_known}
 use Rattle.wi_cli.specs.declared.fault.RunFault.{RunFault}
 use Rattle.wi_cli.specs.declared.fault.RunFault.TheVariants.{Memory, Read, Write, ScriptLimit}
-use Rattle.wi_cli.specs.Inner.Ahead.{Takes}
+use Rattle.wi_cli.specs.Inner.Place.{Place, Advances, IsOver}
 use Rattle.wi_cli.specs.Lines.{raw_lines, is_whole}
 use Rattle.wi_cli.specs.Inner.Blocks.{Block, blocks, is_complete}
 use Rattle.wi_cli.specs.Inner.Script.{whole_lines}
@@ -27,29 +26,28 @@ AreBlocksOf true ls bs = AreBlocks ls bs
 AreBlocksOf false ls bs = blocks ls ≡ bs
 
 -- Lines were taken, and counted where their LF came. Only where the source has nothing left may the last lack it.
-pub record TookLines (whole : Bool) (buffer : List ℕ) (left : Option (List ℕ)) (buffer' : List ℕ) (left' : Option (List ℕ)) (count count' : ℕ) : Type 0 where
+pub record TookLines (whole : Bool) (p q : Place) : Type 0 where
   pub lines : List (List ℕ)
   pub last : List ℕ
   pub are_whole : AreWhole lines
   pub no_lf : is_whole last ≡ false
   pub none_last : whole ≡ true → last ≡ []
-  pub taken : Takes buffer left buffer' left' (concat lines ++ last)
-  pub at_end : whole ≡ false → IsAtEnd (prepend_known buffer' left')
-  pub counted : count' ≡ count + length lines
-  pub few : count' + length (raw_lines last) ≤ max_lines
+  pub taken : Advances p q (concat lines ++ last)
+  pub at_end : whole ≡ false → IsOver q
+  pub counted : q.lines ≡ p.lines + length lines
+  pub few : q.lines + length (raw_lines last) ≤ max_lines
 
 -- why no line was taken behind these: the source failed within one, or one more would be too many
-abbrev pub BrokeBehind : RunFault → List ℕ → Option (List ℕ) → List ℕ → Option (List ℕ) → ℕ → List (List ℕ) → Type 0
-BrokeBehind Memory buffer left buffer' left' count lines = ⊥
-BrokeBehind Read buffer left buffer' left' count lines =
-    (last : List ℕ) × (is_whole last ≡ false) × (buffer' ≡ []) × Takes buffer left buffer' left' (concat lines ++ last)
-    × ((count + length lines) + length (raw_lines last) ≤ max_lines)
-BrokeBehind Write buffer left buffer' left' count lines = ⊥
-BrokeBehind ScriptLimit buffer left buffer' left' count lines =
-    (b : ℕ) × Takes buffer left buffer' left' (concat lines ++ b ∷ []) × (count + length lines ≡ max_lines)
+abbrev pub BrokeBehind : RunFault → Place → Place → List (List ℕ) → Type 0
+BrokeBehind Memory p q lines = ⊥
+BrokeBehind Read p q lines =
+    (last : List ℕ) × (is_whole last ≡ false) × (q.chunk ≡ []) × Advances p q (concat lines ++ last)
+    × ((p.lines + length lines) + length (raw_lines last) ≤ max_lines)
+BrokeBehind Write p q lines = ⊥
+BrokeBehind ScriptLimit p q lines = (b : ℕ) × Advances p q (concat lines ++ b ∷ []) × (p.lines + length lines ≡ max_lines)
 
 -- lines were taken, and no more
-pub record BrokeLines (fault : RunFault) (buffer : List ℕ) (left : Option (List ℕ)) (buffer' : List ℕ) (left' : Option (List ℕ)) (count : ℕ) : Type 0 where
+pub record BrokeLines (fault : RunFault) (p q : Place) : Type 0 where
   pub lines : List (List ℕ)
   pub are_whole : AreWhole lines
-  pub cause : BrokeBehind fault buffer left buffer' left' count lines
+  pub cause : BrokeBehind fault p q lines

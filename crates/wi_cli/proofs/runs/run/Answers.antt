@@ -1,5 +1,5 @@
-use Rattle.wi_cli.proofs.Vocabulary.{rules, arith, err_from_is_err_and}
-use Rattle.wi_cli.proofs.OutcomeLemmas.{going_none, going_on, ends_sent, ends_stopped, still_few, one_more, all_read, run_is}
+use Rattle.wi_cli.proofs.Vocabulary.{refl, rules, arith, err_from_is_err_and}
+use Rattle.wi_cli.proofs.OutcomeLemmas.{going_none, going_on, ends_sent, ends_stopped, still_few, all_read, run_is}
 use Rattle.wi_cli.proofs.ExitLemmas.{not_run}
 use Rattle.wi_cli.proofs.ReadingLemmas.{failed_unread}
 use Rattle.wi_cli.proofs.runs.run.Goals as goal
@@ -17,8 +17,8 @@ pub turns-preserved : goal.turns-preserved
 turns-preserved g c =
     let turned = rw c.if-branch.true at c.in_ok-turn.ensures.done in
     record {
-      going = going_on _ _ _ _ _ _ _ _ _ _ _ c.turns.buffers.script.lines _ c.turns.invariant.going turned;
-      few = still_few turned;
+      going = going_on _ _ _ _ _ c.turns.invariant.going turned;
+      few = still_few _ _ _ turned;
       reads = c.in_ok-turn.ensures.reads;
       writes = c.in_ok-turn.ensures.writes;
     }
@@ -27,8 +27,8 @@ pub turns-smaller : goal.turns-smaller
 turns-smaller g c =
     let turned = rw c.if-branch.true at c.in_ok-turn.ensures.done in
     let old = c.turns.invariant in
-    let more = one_more turned in
-    let few = still_few turned in
+    let more = turned.0.block.grows refl in
+    let few = still_few _ _ _ turned in
     omega arith
 
 pub returns-in_default : goal.returns-in_default
@@ -39,7 +39,7 @@ returns-in_err-turn g c =
     let p = err_from_is_err_and c.from_residual.result c.from_residual.ensures.1 in
     record {
       runs =
-          run_is _ _ _ _ _ _ _ _ _ _ _ _ (rw (p.1, p.2) (ends_stopped _ _ _ _ _ _ _ _ _ _ _ _ c.turns.buffers.script.lines c.turns.invariant.going c.in_err-turn.ensures.done))
+          run_is _ _ _ _ _ _ _ _ _ _ _ _ (rw (p.1, p.2) (ends_stopped _ _ _ _ _ c.turns.invariant.going _ c.in_err-turn.ensures.done))
           (search rules) (search rules) (search rules) (search rules) (failed_unread _ _ _ p.1 p.2 c.in_err-turn.ensures.reads) (search rules) (search rules) (search rules);
     }
 
@@ -48,6 +48,6 @@ returns g c =
     let turned = rw c.if-branch.false at c.in_ok-turn.ensures.done in
     record {
       runs =
-          run_is _ _ _ _ _ _ _ _ _ _ _ _ (ends_sent _ _ _ _ _ _ _ _ _ _ _ _ _ c.turns.buffers.script.lines _ c.turns.invariant.going turned c.send.ensures.bytes c.send.ensures.fault)
-          (all_read _ _ _ _ _ _ _ _ _ _ _ turned) (search rules) (search rules) (search rules) (search rules) (search rules) (search rules) (search rules);
+          run_is _ _ _ _ _ _ _ _ _ _ _ _ (ends_sent _ _ _ _ _ c.turns.invariant.going _ _ turned c.send.ensures.bytes c.send.ensures.fault)
+          (all_read _ _ _ turned) (search rules) (search rules) (search rules) (search rules) (search rules) (search rules) (search rules);
     }
