@@ -273,7 +273,7 @@ fn take_operated(operator: Operator, x: &Fraction, y: &Fraction, number: &mut Fr
     }
 }
 
-/// Takes the product or the quotient of two numbers, if the operator gives it.
+/// As `take_operated`, where the operator is neither a plus nor a minus.
 #[inline(never)]
 fn take_product(operator: Operator, x: &Fraction, y: &Fraction, number: &mut Fraction) -> bool
     ensures { OnTrue result (operators.operate operator
@@ -281,6 +281,17 @@ fn take_product(operator: Operator, x: &Fraction, y: &Fraction, number: &mut Fra
 {
     match operator {
         Operator::Multiply => take_outcome(multiply(*x, *y), number),
+        _ => take_quotient(operator, x, y, number),
+    }
+}
+
+/// As `take_product`, where the operator doesn't multiply.
+#[inline(never)]
+fn take_quotient(operator: Operator, x: &Fraction, y: &Fraction, number: &mut Fraction) -> bool
+    ensures { OnTrue result (operators.operate operator
+        (Values.Number x.now) (Values.Number y.now) ≡ Values.Number number.new) }
+{
+    match operator {
         Operator::Divide => take_outcome(divide(*x, *y), number),
         _ => false,
     }

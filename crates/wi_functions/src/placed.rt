@@ -103,6 +103,25 @@ pub fn push_evaluated(
         values.push_reserved(Value::Number(number));
         return Ok(());
     }
+    push_any(alloc, placed, values, meter)
+}
+
+/// As `push_evaluated`, with a value for each part.
+#[inline(never)]
+fn push_any(
+    alloc: Global,
+    placed: &Placed,
+    values: &mut Vec<Value>,
+    meter: &mut Meter,
+) -> Result<(), AllocError>
+    requires { vec_len values.old < vec_capacity values.old }
+    ensures value { OnOk result (values.new.items ≡ values.old.items
+        ++ formulas.zero_for_empty (placed_value placed.now values.old.items) ∷ []) }
+    ensures capacity { vec_capacity values.new ≡ vec_capacity values.old }
+    ensures counted { OnOk result (meter.new
+        ≡ record meter.old { evaluations = one_more meter.old.evaluations }) }
+    ensures err { OnErr result (meter.new ≡ meter.old) }
+{
     let value = evaluate_any(alloc, placed, values, meter)?;
     values.push_reserved(value);
     Ok(())

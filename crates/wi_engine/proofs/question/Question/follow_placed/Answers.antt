@@ -1,4 +1,5 @@
-use Rattle.wi_engine.proofs.Words.{◌≡◌, ◌∙◌, ◌++◌, ℕ, true, List, map, take, ap, refl, subst, sym, arith, common_steps, append-nil, is_one_of, put_all, cell_value, MemoState, NeedsNoEvaluation}
+use Rattle.std.proofs.lemmas.Bool.{OnTrue_at}
+use Rattle.wi_engine.proofs.Words.{rules, ◌≡◌, ◌∙◌, ◌++◌, ℕ, true, List, map, take, ap, refl, subst, sym, arith, common_steps, append-nil, is_one_of, put_all, cell_value, MemoState, NeedsNoEvaluation}
 use Rattle.wi_engine.specs.declared.placing.PlacedCell.{PlacedCell}
 use Rattle.wi_engine.specs.declared.plan.Planned.{Planned}
 use Rattle.wi_engine.specs.Inner.Placing.{IsPlacedFormula, cells_placed}
@@ -14,7 +15,7 @@ pub loop-cell-init : goal.loop-cell-init
 loop-cell-init g c = record {
   same = refl;
   counted = counted_none c.args.self.now.meter;
-  values = ap (map (cell_value (put_all c.args.store.now.sheet c.args.world.now))) (append-nil c.args.plan.now.inputs.items) ∙ (rw c.in-Some.is at c.in_ok-found.ensures) c.args.store.now.sheet ∙ sym c.reserve.ensures.items;
+  values = ap (map (cell_value (put_all c.args.store.now.sheet c.args.world.now))) (append-nil c.args.plan.now.inputs.items) ∙ OnTrue_at (search rules) c.in_ok-push_inputs.ensures c.args.store.now.sheet ∙ sym c.reserve.ensures.items;
   room = grind (arith, common_steps);
 }
 
