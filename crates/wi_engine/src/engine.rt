@@ -31,6 +31,7 @@ use wi_values::{Address, Replacement, Value};
 use wi_worlds::World;
 
 /// Replacements with those of a what-if put in. All its inputs' values are taken before any is put.
+#[inline(always)]
 pub(crate) fn world_of_what_if<'a, M: Memo>(
     alloc: Global,
     store: &'a Store,
