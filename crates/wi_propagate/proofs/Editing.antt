@@ -1,5 +1,5 @@
 -- What is so of a calculator that keeps values stays so over an edit.
-use Rattle.wi_propagate.proofs.Words.{◌≡◌, ◌==◌, ◌⊎◌, ◌≤◌, ◌+◌, ℕ, Bool, true, false, cond, nat_lt, nat_le, List, [], ◌∷◌, map, Option, Some, None, IfSome, Result, Ok, Err, refl, ap, sym, ◌∙◌, subst, arith, or_parts, keys_of, turn_test, Content, Constant, Formula, Sheet, content_of, with_content, Stored, edited, without_empty, change_without_empty, accepted, applied, Applies, StoreFault, Full, EditLimit, Memory, Counts, KeptValues, kept, value_for, is_one_of, SameOff, in_cone, Edges, AreEdgesOf, brought, edges_after, sheet_after, edges_follow, Generations, IsEdit, KeptSheet, generation_in, IsKeptFor, AreKeptRight, content_of-with, Value, Key, numbered, IsUnread, Box, Carried, kept_sheet, Stamps, flushed, AreKeptUp}
+use Rattle.wi_propagate.proofs.Words.{◌≡◌, ◌==◌, ◌⊎◌, ◌≤◌, ◌+◌, ℕ, Bool, true, false, cond, nat_lt, nat_le, List, [], ◌∷◌, map, Option, Some, None, IfSome, Result, Ok, Err, refl, ap, sym, ◌∙◌, subst, arith, or_parts, keys_of, turn_test, Content, Constant, Formula, Sheet, content_of, with_content, Stored, edited, without_empty, change_without_empty, accepted, applied, Applies, StoreFault, Full, EditLimit, Memory, Counts, KeptValues, kept, value_for, is_one_of, SameOff, in_cone, Edges, AreEdgesOf, brought, edges_after, sheet_after, edges_follow, Generations, IsEdit, KeptSheet, generation_in, IsKeptFor, AreKeptRight, content_of-with, Value, Key, numbered, IsUnread, Box, Carried, kept_sheet, Stamps, flushed, AreKeptUp, IsHeadOf}
 use Rattle.wi_propagate.proofs.RightValues.{AreRaised, kept_over_edit}
 use Rattle.wi_propagate.proofs.StampSteps.{flushed_after, flushed_same, kept_up_after, no_numbers, flushed_none}
 
@@ -122,9 +122,9 @@ module _ (old new : Stored) (changes : List (ℕ × Option Content)) (first mid 
       below : (d : ℕ) → generation_in mid.edited_at d ≤ n
       below d = let a = k.past d in let b = space d in let m = number_applied old new changes h in omega (arith, a, b, m, number)
 
-  pub edit_keeps_up : mid.valid_since ≡ first.valid_since → ((x : ℕ) → is_one_of first.dirty x ≡ true → is_one_of mid.dirty x ≡ true) → ((x : ℕ) → is_one_of cells x ≡ true → (is_one_of mid.dirty x ≡ true) ⊎ IsUnread old.sheet x) → last.valid_since ≡ mid.valid_since → last.dirty ≡ mid.dirty → AreKeptUp new.sheet new.edits last
-  edit_keeps_up valid_since stays dirty again still = subst (λ (m : ℕ). AreKeptUp new.sheet m last) number (kept_up_after old.sheet new.sheet (keys_of changes) first mid last old.edits n (same_off_applied old new changes h) (number ∙ number_applied old new changes h) space valid_since stays
-      (λ x m. dirty x (ap (λ (xs : List ℕ). is_one_of xs x) are ∙ m)) numbers again still k)
+  pub edit_keeps_up : ((x : ℕ) → is_one_of first.dirty x ≡ true → is_one_of mid.dirty x ≡ true) → ((x : ℕ) → is_one_of cells x ≡ true → (is_one_of mid.dirty x ≡ true) ⊎ IsUnread old.sheet x) → ((c : ℕ) → generation_in last.valid_since c ≡ generation_in first.valid_since c) → last.dirty ≡ mid.dirty → IsHeadOf new.sheet last.head last.cone → AreKeptUp new.sheet new.edits last
+  edit_keeps_up stays dirty valid_since still head = subst (λ (m : ℕ). AreKeptUp new.sheet m last) number (kept_up_after old.sheet new.sheet (keys_of changes) first mid last old.edits n (same_off_applied old new changes h) (number ∙ number_applied old new changes h) space stays
+      (λ x m. dirty x (ap (λ (xs : List ℕ). is_one_of xs x) are ∙ m)) numbers valid_since still head k)
 
 pub edges_applied : (es : Edges) (old new : Stored) (changes : List (ℕ × Option Content)) → AreEdgesOf es old.sheet → applied old changes ≡ Ok new → AreEdgesOf (edges_after es changes) new.sheet
 edges_applied es old new changes h e =

@@ -94,6 +94,12 @@ pub flushing_stays : (es : Edges) (edited_at old new : Generations) (dirty rest 
 flushing_stays es edited_at old new dirty rest visited last same g k s a =
     dirty_stays s (generation_in edited_at) (stamped_in edited_at old) (stamped_in edited_at new) rest dirty g (λ c n l. let e = same c in let b = ((k s a).dirty c n l).no_later in (omega (arith, e), omega (arith, e, b))) (k s a).dirty
 
+-- and where the numbers are as before
+pub dirty_renumbered : (es : Edges) (edited_at old new : Generations) (dirty : List ℕ) → ((c : ℕ) → generation_in new c ≡ generation_in old c) → ((s : Sheet) → AreEdgesOf es s → AreDirty s (generation_in edited_at) dirty (stamped_in edited_at old)) →
+    (s : Sheet) → AreEdgesOf es s → AreDirty s (generation_in edited_at) dirty (stamped_in edited_at new)
+dirty_renumbered es edited_at old new dirty same k s a =
+    dirty_stays s (generation_in edited_at) (stamped_in edited_at old) (stamped_in edited_at new) dirty dirty (λ x h. h) (λ c n l. let e = same c in let b = (k s a c n l).no_later in (omega (arith, e), omega (arith, e, b))) (k s a)
+
 -- and where none is left, none is dirty
 pub flushing_ends : (es : Edges) (edited_at valid_since : Generations) (order : List (ℕ × ℕ)) (visited : ℕ → Bool) (last : ℕ) → order ≡ [] → IsFlushingOver es edited_at valid_since (second_cells order) visited last →
     (s : Sheet) → AreEdgesOf es s → AreDirty s (generation_in edited_at) [] (stamped_in edited_at valid_since)

@@ -15,7 +15,7 @@ cones_over es s t flushed a b h = record {
     same : (c x : ℕ) → reaches s c x ≡ reaches t c x
     same c x = same_reaches s t (λ d. sym (a d) ∙ b d) c x
 
-in_same_cone : (es : Edges) (s t : Sheet) → AreEdgesOf es s → AreEdgesOf es t → (xs : List ℕ) (c : ℕ) → in_cone s xs c ≡ in_cone t xs c
+pub in_same_cone : (es : Edges) (s t : Sheet) → AreEdgesOf es s → AreEdgesOf es t → (xs : List ℕ) (c : ℕ) → in_cone s xs c ≡ in_cone t xs c
 in_same_cone es s t a b [] c = refl
 in_same_cone es s t a b (x ∷ xs) c =
     ap (λ (k : Bool). k || in_cone s xs c) (same_reaches s t (λ d. sym (a d) ∙ b d) c x) ∙ ap (λ (k : Bool). reaches t c x || k) (in_same_cone es s t a b xs c)

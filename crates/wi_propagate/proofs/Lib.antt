@@ -17,6 +17,7 @@ pub mod StampSteps
 pub mod FlushingSteps
 pub mod ReplacedCones
 pub mod KeptCones
+pub mod HeadSteps
 pub mod RightValues
 pub mod KeepSteps
 pub mod PlaceCounts

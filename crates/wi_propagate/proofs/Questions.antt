@@ -1,5 +1,5 @@
 -- A question asked of a calculator that keeps values.
-use Rattle.wi_propagate.proofs.Words.{◌≡◌, ◌≤◌, ◌<◌, ◌+◌, ◌-◌, ◌^◌, inl, inr, length, All, filter, not, is_some, ℕ, Bool, true, false, List, [], Option, refl, ap, sym, ◌∙◌, subst, arith, keys_of, cases_lt, true≢false, Value, Fault, Circular, Replacement, Sheet, content_of, put_all, has_formula, Counts, Stored, Key, KeptValues, kept, value_for, IfSome, circular, clash, Case, reaching, asks_circular, table_entry, IsWhatIfSettled, IsClosed, SpentOn, left_is_unkept, sum_ones, never_fall-same, spent_unkept, cells_open, entry_circular, none_circular, MayBeRead, KeepsFound, WhereSpace, TakesNoMore, GivesUpWhenFull, NeedsNoEvaluation, IsValuedAnew, IsSameBeside, Saved, SpendsAtMost, what_if_more, rests_more, none_went, Generations, generation_in, KeptSheet, key_in, stands, is_kept, unkept, gone, IsAtHand, HasSpaceFor, KeepsAll, KeepsNoMore, KeepsOld, KeepsWhileSpace, emptied, AreRight, IsKeptFor, AreKeptRight, Box, Carried, kept_sheet, values_in, Keeping, keeping, begun, state_in, ArePlaced, IsKeepingRight, Owes, flushed, or_none, Some, None, IsSome, Stamps, stamped_in, Staging, AreEdgesOf, AreDirty, AreCarriedCones, AreKeptUp, AreAllCones, ArePlans}
+use Rattle.wi_propagate.proofs.Words.{◌≡◌, ◌≤◌, ◌<◌, ◌+◌, ◌-◌, ◌^◌, inl, inr, length, All, filter, not, is_some, ℕ, Bool, true, false, List, [], Option, refl, ap, sym, ◌∙◌, subst, arith, keys_of, cases_lt, true≢false, Value, Fault, Circular, Replacement, Sheet, content_of, put_all, has_formula, Counts, Stored, Key, KeptValues, kept, value_for, IfSome, circular, clash, Case, reaching, asks_circular, table_entry, IsWhatIfSettled, IsClosed, SpentOn, left_is_unkept, sum_ones, never_fall-same, spent_unkept, cells_open, entry_circular, none_circular, MayBeRead, KeepsFound, WhereSpace, TakesNoMore, GivesUpWhenFull, NeedsNoEvaluation, IsValuedAnew, IsSameBeside, Saved, SpendsAtMost, what_if_more, rests_more, none_went, Generations, generation_in, KeptSheet, key_in, stands, is_kept, unkept, gone, IsAtHand, HasSpaceFor, KeepsAll, KeepsNoMore, KeepsOld, KeepsWhileSpace, emptied, AreRight, IsKeptFor, AreKeptRight, Box, Carried, kept_sheet, values_in, Keeping, keeping, begun, state_in, ArePlaced, IsKeepingRight, Owes, flushed, or_none, Some, None, IsSome, Stamps, stamped_in, Staging, AreEdgesOf, AreDirty, AreCarriedCones, AreKeptUp, AreStamped, AreAllCones, ArePlans}
 use Rattle.wi_engine.specs.Inner.Saving as saving
 use Rattle.wi_propagate.specs.declared.plans.Plans.{Plans}
 use Rattle.wi_propagate.proofs.StampSteps.{flushed_up}
@@ -149,7 +149,7 @@ abbrev pub AlwaysHolds : Option (Box Carried) → Staging → Stored → Stamps 
 AlwaysHolds o graph s g n = IsSome o × AreEdgesOf graph.now s.sheet × (graph.staged ≡ None) × AreKeptRight (kept_sheet s (flushed s.sheet g.edited_at) o n) × AreCarriedCones s.sheet o × AreKeptUp s.sheet s.edits g
 
 -- once what is dirty is flushed
-pub holds_settled : (o : Option (Box Carried)) (graph : Staging) (s : Stored) (old new : Stamps) (n : Counts) → new.edited_at ≡ old.edited_at → AreDirty s.sheet (generation_in new.edited_at) new.dirty (stamped_in new.edited_at new.valid_since) →
+pub holds_settled : (o : Option (Box Carried)) (graph : Staging) (s : Stored) (old new : Stamps) (n : Counts) → new.edited_at ≡ old.edited_at → AreStamped s.sheet new →
     AlwaysHolds o graph s old n → AlwaysHolds o graph s new n
 holds_settled o graph s old new n e dirty h = (h.0, h.1, h.2, settled_right {s = s} e o n h.3, h.4, flushed_up s.sheet s.edits old new e dirty h.5)
 

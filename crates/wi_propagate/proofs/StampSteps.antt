@@ -1,5 +1,5 @@
 -- Generations that the numbers of edits tell, and that are stamped late.
-use Rattle.wi_propagate.proofs.Words.{◌≡◌, ◌==◌, ◌||◌, ◌⊎◌, inl, inr, ◌≤◌, ◌+◌, ◌++◌, max, ℕ, zero, suc, Bool, true, false, cond, List, [], ◌∷◌, map, Option, Some, None, IsSome, refl, ap, sym, ◌∙◌, subst, arith, or_cases, or_left, or_right, or_parts, false_from_ne_true, unwrap_or, nat_cmp, keys_of, lookup, is_at, is_at-eq, turn_test, Sheet, content_of, cells_with_formula, Walks, Reaches, is_one_of, SameOff, in_cone, numbered, IsLatest, IsDirty, AreDirty, IsUnread, latest_among, clash, same_cell, formula_cell, reader_formula, in_front, in_back, latest_of_cone, one_is_latest, latest_is_among, edit_owes, none_is_dirty, Generations, generation_in, HasGeneration, Stamps, stamped_in, flushed, AreAllStamped, AreKeptUp}
+use Rattle.wi_propagate.proofs.Words.{◌≡◌, ◌==◌, ◌||◌, ◌⊎◌, inl, inr, ◌≤◌, ◌+◌, ◌++◌, max, ℕ, zero, suc, Bool, true, false, cond, List, [], ◌∷◌, map, Option, Some, None, IsSome, refl, ap, sym, ◌∙◌, subst, arith, or_cases, or_left, or_right, or_parts, false_from_ne_true, unwrap_or, nat_cmp, keys_of, lookup, is_at, is_at-eq, turn_test, Sheet, content_of, cells_with_formula, Walks, Reaches, is_one_of, SameOff, in_cone, numbered, IsLatest, IsDirty, AreDirty, IsUnread, latest_among, clash, same_cell, formula_cell, reader_formula, in_front, in_back, latest_of_cone, one_is_latest, latest_is_among, edit_owes, none_is_dirty, Generations, generation_in, HasGeneration, Stamps, stamped_in, flushed, AreAllStamped, AreKeptUp, AreStamped, IsHeadOf}
 
 -- ---- what is told
 
@@ -79,15 +79,15 @@ flushed_after s t xs old new k same l e c = at (in_cone s xs c) refl
 
 -- where none is dirty, what a cell is stamped with is its generation
 pub stamped_is_flushed : (s : Sheet) (edits : ℕ) (g : Stamps) → AreKeptUp s edits g → g.dirty ≡ [] → (c : ℕ) → stamped_in g.edited_at g.valid_since c ≡ generation_in (flushed s g.edited_at) c
-stamped_is_flushed s edits g k e c = none_is_dirty s (generation_in g.edited_at) (stamped_in g.edited_at g.valid_since) g.dirty c _ (λ x. ap (λ (xs : List ℕ). is_one_of xs x) e) k.dirty (flushed_latest s g.edited_at c)
+stamped_is_flushed s edits g k e c = none_is_dirty s (generation_in g.edited_at) (stamped_in g.edited_at g.valid_since) g.dirty c _ (λ x. ap (λ (xs : List ℕ). is_one_of xs x) e) k.stamped.dirty (flushed_latest s g.edited_at c)
 
 -- over an edit
 pub kept_up_after : (s t : Sheet) (xs : List ℕ) (old mid new : Stamps) (edits n : ℕ) → SameOff s t xs → n ≡ edits + 1 →
-    ((c : ℕ) → generation_in mid.edited_at c ≡ generation_in old.edited_at c) → mid.valid_since ≡ old.valid_since → ((x : ℕ) → is_one_of old.dirty x ≡ true → is_one_of mid.dirty x ≡ true) → ((x : ℕ) → is_one_of xs x ≡ true → (is_one_of mid.dirty x ≡ true) ⊎ IsUnread s x) →
-    ((c : ℕ) → generation_in new.edited_at c ≡ numbered xs n (generation_in mid.edited_at) c) → new.valid_since ≡ mid.valid_since → new.dirty ≡ mid.dirty → AreKeptUp s edits old → AreKeptUp t n new
-kept_up_after s t xs old mid new edits n same e edited_at valid_since stays dirty renamed again still k = record {
+    ((c : ℕ) → generation_in mid.edited_at c ≡ generation_in old.edited_at c) → ((x : ℕ) → is_one_of old.dirty x ≡ true → is_one_of mid.dirty x ≡ true) → ((x : ℕ) → is_one_of xs x ≡ true → (is_one_of mid.dirty x ≡ true) ⊎ IsUnread s x) →
+    ((c : ℕ) → generation_in new.edited_at c ≡ numbered xs n (generation_in mid.edited_at) c) → ((c : ℕ) → generation_in new.valid_since c ≡ generation_in old.valid_since c) → new.dirty ≡ mid.dirty → IsHeadOf t new.head new.cone → AreKeptUp s edits old → AreKeptUp t n new
+kept_up_after s t xs old mid new edits n same e edited_at stays dirty renamed valid_since still head k = record {
   past = λ c. past c (is_one_of xs c) (numbers c);
-  dirty = λ c m l. after c m (edit_owes s t xs old.dirty mid.dirty (generation_in old.edited_at) (stamped_in old.edited_at old.valid_since) n same below dirty stays (λ d. (generation_in (flushed s old.edited_at) d, flushed_latest s old.edited_at d)) k.dirty c m (same_numbers t (generation_in new.edited_at) (numbered xs n (generation_in old.edited_at)) c m numbers l));
+  stamped = record { dirty = λ c m l. after c m (edit_owes s t xs old.dirty mid.dirty (generation_in old.edited_at) (stamped_in old.edited_at old.valid_since) n same below dirty stays (λ d. (generation_in (flushed s old.edited_at) d, flushed_latest s old.edited_at d)) k.stamped.dirty c m (same_numbers t (generation_in new.edited_at) (numbered xs n (generation_in old.edited_at)) c m numbers l)); head = head };
 }
   where
     numbers : (c : ℕ) → generation_in new.edited_at c ≡ numbered xs n (generation_in old.edited_at) c
@@ -103,7 +103,7 @@ kept_up_after s t xs old mid new edits n same e edited_at valid_since stays dirt
     stamped_below : (c : ℕ) → generation_in old.valid_since c ≤ n
     stamped_below c =
         let l = flushed_latest s old.edited_at c in
-        let o = (k.dirty c _ l).no_later in
+        let o = (k.stamped.dirty c _ l).no_later in
         at (generation_in (flushed s old.edited_at) c) o l.reached
       where
         at : (m : ℕ) → stamped_in old.edited_at old.valid_since c ≤ m → (m ≡ 0) ⊎ ((d : ℕ) × Reaches s c d × (generation_in old.edited_at d ≡ m)) → generation_in old.valid_since c ≤ n
@@ -113,7 +113,7 @@ kept_up_after s t xs old mid new edits n same e edited_at valid_since stays dirt
     -- what a cell is stamped with then
     stamped_then : (c : ℕ) → stamped_in new.edited_at new.valid_since c ≡ numbered xs n (stamped_in old.edited_at old.valid_since) c
     stamped_then c =
-        ap (λ (m : ℕ). max m (generation_in new.valid_since c)) (numbers c) ∙ ap (λ (ns : Generations). max (numbered xs n (generation_in old.edited_at) c) (generation_in ns c)) (again ∙ valid_since) ∙ at (is_one_of xs c)
+        ap (λ (m : ℕ). max m (generation_in new.valid_since c)) (numbers c) ∙ ap (max (numbered xs n (generation_in old.edited_at) c)) (valid_since c) ∙ at (is_one_of xs c)
       where
         at : (b : Bool) → max (cond b n (generation_in old.edited_at c)) (generation_in old.valid_since c) ≡ cond b n (stamped_in old.edited_at old.valid_since c)
         at true = let b = stamped_below c in omega (arith, b)
@@ -127,10 +127,13 @@ kept_up_after s t xs old mid new edits n same e edited_at valid_since stays dirt
         at (inr x) = inr (x.0, ap (λ (ys : List ℕ). is_one_of ys x.0) still ∙ x.1, x.2, numbers x.0 ∙ x.3)
 
 -- and where an edit was refused, or room was made alone
-pub kept_up_more : (s : Sheet) (old new : Stamps) (edits : ℕ) → ((c : ℕ) → generation_in new.edited_at c ≡ generation_in old.edited_at c) → new.valid_since ≡ old.valid_since → ((x : ℕ) → is_one_of old.dirty x ≡ true → is_one_of new.dirty x ≡ true) → AreKeptUp s edits old → AreKeptUp s edits new
-kept_up_more s old new edits edited_at valid_since stays k = record {
+pub kept_up_more : (s : Sheet) (old new : Stamps) (edits : ℕ) → ((c : ℕ) → generation_in new.edited_at c ≡ generation_in old.edited_at c) → new.valid_since ≡ old.valid_since → (new.head ≡ old.head) × (new.cone ≡ old.cone) → ((x : ℕ) → is_one_of old.dirty x ≡ true → is_one_of new.dirty x ≡ true) → AreKeptUp s edits old → AreKeptUp s edits new
+kept_up_more s old new edits edited_at valid_since head stays k = record {
   past = λ c. subst (λ (m : ℕ). m ≤ edits) (sym (edited_at c)) (k.past c);
-  dirty = λ c n l. dirty c n (k.dirty c n (same_numbers s (generation_in new.edited_at) (generation_in old.edited_at) c n edited_at l));
+  stamped = record {
+    dirty = λ c n l. dirty c n (k.stamped.dirty c n (same_numbers s (generation_in new.edited_at) (generation_in old.edited_at) c n edited_at l));
+    head = subst (λ (o : Option ℕ). IsHeadOf s o new.cone) (sym head.0) (subst (IsHeadOf s old.head) (sym head.1) k.stamped.head);
+  };
 }
   where
     stamped_then : (c : ℕ) → stamped_in new.edited_at new.valid_since c ≡ stamped_in old.edited_at old.valid_since c
@@ -144,10 +147,10 @@ kept_up_more s old new edits edited_at valid_since stays k = record {
         at (inr x) = inr (x.0, stays x.0 x.1, x.2, edited_at x.0 ∙ x.3)
 
 -- and where it was flushed
-pub flushed_up : (s : Sheet) (edits : ℕ) (old new : Stamps) → new.edited_at ≡ old.edited_at → AreDirty s (generation_in new.edited_at) new.dirty (stamped_in new.edited_at new.valid_since) → AreKeptUp s edits old → AreKeptUp s edits new
-flushed_up s edits old new e o k = record { past = λ c. subst (λ (ns : Generations). generation_in ns c ≤ edits) (sym e) (k.past c); dirty = o }
+pub flushed_up : (s : Sheet) (edits : ℕ) (old new : Stamps) → new.edited_at ≡ old.edited_at → AreStamped s new → AreKeptUp s edits old → AreKeptUp s edits new
+flushed_up s edits old new e o k = record { past = λ c. subst (λ (ns : Generations). generation_in ns c ≤ edits) (sym e) (k.past c); stamped = o }
 
-pub all_stamped : (s : Sheet) (edits : ℕ) (old new : Stamps) → new.edited_at ≡ old.edited_at → AreDirty s (generation_in new.edited_at) new.dirty (stamped_in new.edited_at new.valid_since) → new.dirty ≡ [] → AreKeptUp s edits old → AreAllStamped s edits new
+pub all_stamped : (s : Sheet) (edits : ℕ) (old new : Stamps) → new.edited_at ≡ old.edited_at → AreStamped s new → new.dirty ≡ [] → AreKeptUp s edits old → AreAllStamped s edits new
 all_stamped s edits old new e o none k = record { kept_up = flushed_up s edits old new e o k; none_dirty = none }
 
 -- ---- a cell of a map of numbers is one of its keys, and the other way round
@@ -172,7 +175,7 @@ there_key (e ∷ es) c h = at (is_at (nat_cmp c) e.0) (is_at-eq c e.0) (or_cases
 -- ---- where nothing was edited
 
 abbrev pub no_numbers : Stamps
-no_numbers = record { edited_at = []; valid_since = []; dirty = [] }
+no_numbers = record { edited_at = []; valid_since = []; head = None; cone = []; dirty = [] }
 
 pub flushed_none : (s : Sheet) (g : Stamps) (c : ℕ) → g ≡ no_numbers → generation_in (flushed s g.edited_at) c ≡ 0
 flushed_none s g c e = ap (λ (x : Stamps). generation_in (flushed s x.edited_at) c) e ∙ flushed_is s [] c
@@ -180,7 +183,7 @@ flushed_none s g c e = ap (λ (x : Stamps). generation_in (flushed s x.edited_at
 pub none_kept_up : (s : Sheet) (n : ℕ) (g : Stamps) → g ≡ no_numbers → AreKeptUp s n g
 none_kept_up s n g e = subst (AreKeptUp s n) (sym e) (record {
   past = λ c. omega arith;
-  dirty = λ c m l. at c m l.reached;
+  stamped = record { dirty = λ c m l. at c m l.reached; head = tt {0} };
 })
   where
     owes : (m : ℕ) → m ≡ 0 → (c : ℕ) → IsDirty s (generation_in []) [] (stamped_in no_numbers.edited_at no_numbers.valid_since) c m

@@ -62,7 +62,7 @@ pub use Rattle.wi_parser.specs.declared.content.Content.TheVariants.{Constant, F
 pub use Rattle.wi_propagate.specs.Inner.Cones.{AreAllCones}
 pub use Rattle.wi_propagate.specs.Inner.Entries.{MayBeAsked}
 pub use Rattle.wi_propagate.specs.Inner.Keeping.{AreCarriedCones, ArePlaced, HasGeneration, IsKeepingRight, Keeping, TakesOver, begun, keeping, kept_sheet, state_in, value_in, values_in}
-pub use Rattle.wi_propagate.specs.Inner.Stamps.{AreAllStamped, AreKeptUp, Stamps, stamped_in}
+pub use Rattle.wi_propagate.specs.Inner.Stamps.{AreAllStamped, AreKeptUp, AreStamped, HeadedNumbers, IsHeadOf, IsHeaded, Stamps, renewed, renewed_all, stamped_in}
 unfoldable pub use Rattle.wi_propagate.specs.Inner.Stamps.{flushed}
 pub use Rattle.wi_propagate.specs.Inner.Planned.{ArePlans}
 pub use Rattle.wi_propagate.specs.Inner.Owes.{Owes}

@@ -10,11 +10,11 @@ ghost use Rattle.wi_graph.specs.Watched.{IsClosedUp};
 ghost use Rattle.wi_graph.specs.Latest.{AreDirty};
 ghost use Rattle.wi_graph.specs.Inner.Below.{has_visited};
 ghost use Rattle.wi_propagate.specs.KeptSheet.{generation_in};
-ghost use Rattle.wi_propagate.specs.Inner.Keeping.{HasGeneration};
-ghost use Rattle.wi_propagate.specs.Inner.Stamps.{stamped_in};
+ghost use Rattle.wi_propagate.specs.Inner.Stamps.{stamped_in, IsHeadOf};
 ghost use Rattle.wi_propagate.specs.Inner.Flushing.{second_cells};
 
-use crate::generations::{Numbers, greater, number_at, reserve};
+use crate::generations::{Numbers, number_at};
+use crate::late_stamps::LateStamps;
 use std::alloc::{AllocError, Global};
 use wi_graph::{Cells, Graph, Watch};
 use wi_tiles::CellMap;
@@ -36,24 +36,58 @@ impl<'a> Watch for Visited<'a> {
     }
 }
 
+/// Stamps each cell that reaches the only dirty one with its number, and none is dirty then. If memory runs out, it is
+/// dirty still.
+pub(crate) fn flush_cell(
+    graph: &Graph,
+    edited_at: &Numbers,
+    valid_since: &mut LateStamps,
+    dirty: &mut Numbers,
+    cell: Address,
+) -> Result<(), AllocError>
+    requires staged { graph.now.staged ≡ None }
+    requires dirty { (s : Sheet) → AreEdgesOf graph.now.now s
+        → AreDirty s (generation_in edited_at.now.entries)
+        (keys_of dirty.old.entries) (stamped_in edited_at.now.entries valid_since.old.numbers) }
+    requires head { (s : Sheet) → AreEdgesOf graph.now.now s
+        → IsHeadOf s valid_since.old.head valid_since.old.cone }
+    requires only { (x : ℕ) → is_one_of (keys_of dirty.old.entries) x ≡ true → cell ≡ x }
+    ensures dirty { (s : Sheet) → AreEdgesOf graph.now.now s
+        → AreDirty s (generation_in edited_at.now.entries)
+        (keys_of dirty.new.entries) (stamped_in edited_at.now.entries valid_since.new.numbers) }
+    ensures head { (s : Sheet) → AreEdgesOf graph.now.now s
+        → IsHeadOf s valid_since.new.head valid_since.new.cone }
+    ensures clean { OnOk result (keys_of dirty.new.entries ≡ []) }
+{
+    let number = number_at(edited_at, cell);
+    if !valid_since.raise_cone(cell, number) {
+        let cone = graph.cone(&[cell])?;
+        valid_since.lift_cone(cell, cone, number)?;
+    }
+    dirty.clear();
+    Ok(())
+}
+
 /// Stamps each cell that reaches dirty ones with the greatest of their numbers, and none is dirty then. If memory runs
 /// out, they are dirty still.
 pub(crate) fn flush_all(
     alloc: Global,
     graph: &Graph,
     edited_at: &Numbers,
-    valid_since: &mut Numbers,
+    valid_since: &mut LateStamps,
     dirty: &mut Numbers,
 ) -> Result<(), AllocError>
     requires staged { graph.now.staged ≡ None }
     requires dirty { (s : Sheet) → AreEdgesOf graph.now.now s
         → AreDirty s (generation_in edited_at.now.entries)
-        (keys_of dirty.old.entries) (stamped_in edited_at.now.entries valid_since.old.entries) }
+        (keys_of dirty.old.entries) (stamped_in edited_at.now.entries valid_since.old.numbers) }
     ensures dirty { (s : Sheet) → AreEdgesOf graph.now.now s
         → AreDirty s (generation_in edited_at.now.entries)
-        (keys_of dirty.new.entries) (stamped_in edited_at.now.entries valid_since.new.entries) }
+        (keys_of dirty.new.entries) (stamped_in edited_at.now.entries valid_since.new.numbers) }
+    ensures head { valid_since.new.head ≡ None }
     ensures clean { OnOk result (keys_of dirty.new.entries ≡ []) }
 {
+    valid_since.forget_head();
     let mut order = by_number(alloc, edited_at, dirty)?;
     let mut visited = CellMap::new(alloc);
     let mut last = 0;
@@ -102,7 +136,7 @@ fn by_number(
 /// runs out, the stamps are as before.
 fn flush_one(
     graph: &Graph,
-    valid_since: &mut Numbers,
+    valid_since: &mut LateStamps,
     visited: &mut CellMap<()>,
     at: Address,
     number: u64,
@@ -111,21 +145,21 @@ fn flush_one(
     requires closed { (s : Sheet) → AreEdgesOf graph.now.now s
         → IsClosedUp s (has_visited visited.old) }
     ensures valid_since { OnOk result ((s : Sheet) → AreEdgesOf graph.now.now s
-        → (c : ℕ) → generation_in valid_since.new.entries c
+        → (c : ℕ) → generation_in valid_since.new.numbers c
         ≡ (if in_cone s (at ∷ []) c && not (has_visited visited.old c)
-        then max (generation_in valid_since.old.entries c) number
-        else generation_in valid_since.old.entries c)) }
+        then max (generation_in valid_since.old.numbers c) number
+        else generation_in valid_since.old.numbers c)) }
     ensures visited { OnOk result ((s : Sheet) → AreEdgesOf graph.now.now s
         → (c : ℕ) → has_visited visited.new c
         ≡ (has_visited visited.old c || (in_cone s (at ∷ []) c
         && not (has_visited visited.old c)))) }
-    ensures err { OnErr result ((c : ℕ) → generation_in valid_since.new.entries c
-        ≡ generation_in valid_since.old.entries c) }
+    ensures err { OnErr result ((c : ℕ) → generation_in valid_since.new.numbers c
+        ≡ generation_in valid_since.old.numbers c) }
+    ensures head { valid_since.old.head ≡ None → valid_since.new.head ≡ None }
 {
     let cone = beyond_visited(graph, visited, at)?;
     visit(visited, &cone)?;
-    reserve(valid_since, &cone)?;
-    lift(valid_since, &cone, number);
+    valid_since.lift(&cone, number)?;
     Ok(())
 }
 
@@ -150,17 +184,4 @@ fn visit(visited: &mut CellMap<()>, cells: &[Address]) -> Result<(), AllocError>
         visited.put_new(*cell, ())?;
     }
     Ok(())
-}
-
-/// Lifts the stamps of these cells to a number, where they are less. Takes no memory.
-fn lift(valid_since: &mut Numbers, cells: &[Address], number: u64)
-    requires { (c : ℕ) → is_one_of cells.now c ≡ true → HasGeneration valid_since.old.entries c }
-    ensures { (c : ℕ) → generation_in valid_since.new.entries c
-        ≡ (if is_one_of cells.now c then max (generation_in valid_since.old.entries c) number
-        else generation_in valid_since.old.entries c) }
-{
-    for cell in cells {
-        let lifted = greater(number_at(valid_since, *cell), number);
-        valid_since.replace(*cell, lifted);
-    }
 }

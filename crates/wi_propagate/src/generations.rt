@@ -1,16 +1,18 @@
 //! Generations of cells: the numbers of the last accepted edits in whose cones they were. An edit stamps the cells that
 //! it names at once, and those that reach them when a question asks.
 
-ghost use Rattle.std.specs.Prelude.{◌≡◌, ◌⊎◌, ℕ, [], max, true, None, if◌then◌else◌, OnOk};
+ghost use Rattle.std.specs.Prelude.{◌≡◌, ◌⊎◌, ℕ, [], max, true, None, if◌then◌else◌, IfSome, OnOk};
+ghost use Rattle.std.specs.Map.{keys_of};
 ghost use Rattle.wi_values.specs.Address.{is_one_of};
 ghost use Rattle.wi_parser.specs.Sheet.{Sheet};
 ghost use Rattle.wi_graph.specs.Edges.{AreEdgesOf};
-ghost use Rattle.wi_graph.specs.Latest.{AreDirty, IsUnread};
+ghost use Rattle.wi_graph.specs.Latest.{IsUnread};
 ghost use Rattle.wi_propagate.specs.KeptSheet.{generation_in};
 ghost use Rattle.wi_propagate.specs.Inner.Keeping.{HasGeneration};
-ghost use Rattle.wi_propagate.specs.Inner.Stamps.{stamped_in};
+ghost use Rattle.wi_propagate.specs.Inner.Stamps.{stamped_in, AreStamped, IsHeadOf};
 
-use crate::flushing::flush_all;
+use crate::flushing::{flush_all, flush_cell};
+use crate::late_stamps::LateStamps;
 use std::alloc::{AllocError, Global};
 use std::marker::Model;
 use wi_graph::Graph;
@@ -26,7 +28,7 @@ pub struct Generations {
     // The number of the last edit that named a cell.
     edited_at: Numbers,
     // The number of the last edit that named what a cell reaches, as far as it is stamped.
-    valid_since: Numbers,
+    valid_since: LateStamps,
     // The cells whose dependents aren't stamped with their last edits yet, each with 0.
     dirty: Numbers,
     alloc: Global,
@@ -43,7 +45,9 @@ impl Model for Generations {
 
     ghost view = { λ g. record {
       edited_at = g.edited_at.entries;
-      valid_since = g.valid_since.entries;
+      valid_since = g.valid_since.numbers;
+      head = g.valid_since.head;
+      cone = g.valid_since.cone;
       dirty = keys_of g.dirty.entries;
     } };
 }
@@ -51,11 +55,12 @@ impl Model for Generations {
 impl Generations {
     /// No edits yet. Takes no memory.
     pub(crate) fn new(alloc: Global) -> Generations
-        ensures { result ≡ record { edited_at = []; valid_since = []; dirty = [] } }
+        ensures { result
+            ≡ record { edited_at = []; valid_since = []; head = None; cone = []; dirty = [] } }
     {
         Generations {
             edited_at: Numbers::new(alloc),
-            valid_since: Numbers::new(alloc),
+            valid_since: LateStamps::new(alloc),
             dirty: Numbers::new(alloc),
             alloc,
         }
@@ -68,7 +73,7 @@ impl Generations {
     {
         greater(
             number_at(&self.edited_at, at),
-            number_at(&self.valid_since, at),
+            self.valid_since.number_of(at),
         )
     }
 
@@ -80,6 +85,7 @@ impl Generations {
         ensures edited_at { (c : ℕ) → generation_in self.new.edited_at c
             ≡ generation_in self.old.edited_at c }
         ensures valid_since { self.new.valid_since ≡ self.old.valid_since }
+        ensures head { (self.new.head ≡ self.old.head) × (self.new.cone ≡ self.old.cone) }
         ensures stays { (c : ℕ) → is_one_of self.old.dirty c ≡ true
             → is_one_of self.new.dirty c ≡ true }
         ensures there { OnOk result ((c : ℕ) → is_one_of cells.now c ≡ true
@@ -98,35 +104,73 @@ impl Generations {
         ensures edited_at { (c : ℕ) → generation_in self.new.edited_at c
             ≡ (if is_one_of cells.now c then edit else generation_in self.old.edited_at c) }
         ensures valid_since { self.new.valid_since ≡ self.old.valid_since }
+        ensures head { (self.new.head ≡ self.old.head) × (self.new.cone ≡ self.old.cone) }
         ensures dirty { self.new.dirty ≡ self.old.dirty }
     {
         raise(&mut self.edited_at, cells, edit);
     }
 
-    /// Stamps the dependents of dirty cells. The work grows with their cone, beside a sort and a search for the readers
-    /// of each dirty cell. If memory runs out, all are dirty still.
+    /// Lets the head go if after the edit that is staged some cell reads other cells than before. Takes no memory. The
+    /// work is that of `forget_head`.
+    pub(crate) fn keep_over_edit(&mut self, graph: &Graph)
+        ensures edited_at { self.new.edited_at ≡ self.old.edited_at }
+        ensures valid_since { (c : ℕ) → generation_in self.new.valid_since c
+            ≡ generation_in self.old.valid_since c }
+        ensures dirty { self.new.dirty ≡ self.old.dirty }
+        ensures head { (s t : Sheet) → AreEdgesOf graph.now.now s
+            → IfSome graph.now.staged (λ es. AreEdgesOf es t)
+            → IsHeadOf s self.old.head self.old.cone → IsHeadOf t self.new.head self.new.cone }
+    {
+        if !graph.reads_stay() {
+            self.valid_since.forget_head();
+        }
+    }
+
+    /// Stamps the dependents of dirty cells. Where the only one is that whose dependents were stamped last, the work is
+    /// constant. Else it grows with their cone, beside a sort and a search for the readers of each dirty cell. If
+    /// memory runs out, all are dirty still.
     pub(crate) fn flush(&mut self, graph: &Graph) -> Result<(), AllocError>
         requires staged { graph.now.staged ≡ None }
-        requires dirty { (s : Sheet) → AreEdgesOf graph.now.now s
-            → AreDirty s (generation_in self.old.edited_at)
-            self.old.dirty (stamped_in self.old.edited_at self.old.valid_since) }
+        requires stamped { (s : Sheet) → AreEdgesOf graph.now.now s → AreStamped s self.old }
         ensures edited_at { self.new.edited_at ≡ self.old.edited_at }
-        ensures dirty { (s : Sheet) → AreEdgesOf graph.now.now s
-            → AreDirty s (generation_in self.new.edited_at)
-            self.new.dirty (stamped_in self.new.edited_at self.new.valid_since) }
+        ensures stamped { (s : Sheet) → AreEdgesOf graph.now.now s → AreStamped s self.new }
         ensures clean { OnOk result (self.new.dirty ≡ []) }
     {
         if self.dirty.is_empty() {
             return Ok(());
         }
-        flush_all(
-            self.alloc,
-            graph,
-            &self.edited_at,
-            &mut self.valid_since,
-            &mut self.dirty,
-        )
+        match only_cell(&self.dirty) {
+            Some(cell) => flush_cell(
+                graph,
+                &self.edited_at,
+                &mut self.valid_since,
+                &mut self.dirty,
+                cell,
+            ),
+            None => flush_all(
+                self.alloc,
+                graph,
+                &self.edited_at,
+                &mut self.valid_since,
+                &mut self.dirty,
+            ),
+        }
     }
+}
+
+/// The only cell that has a number, if there is just one.
+fn only_cell(numbers: &Numbers) -> Option<Address>
+    ensures { IfSome result (λ cell.
+        (x : ℕ) → is_one_of (keys_of numbers.now.entries) x ≡ true → cell ≡ x) }
+{
+    if numbers.len() != 1 {
+        return None;
+    }
+    let mut rest = numbers.iter();
+    let Some(entry) = rest.next() else {
+        return None;
+    };
+    Some(entry.0)
 }
 
 /// Marks these cells dirty where some formula reads one of them.
@@ -176,7 +220,7 @@ pub(crate) fn reserve(generations: &mut Numbers, cells: &[Address]) -> Result<()
 }
 
 /// Raises the numbers of these cells to that of an edit. Takes no memory.
-fn raise(generations: &mut Numbers, cells: &[Address], edit: u64)
+pub(crate) fn raise(generations: &mut Numbers, cells: &[Address], edit: u64)
     requires { (c : ℕ) → is_one_of cells.now c ≡ true → HasGeneration generations.old.entries c }
     ensures { (c : ℕ) → generation_in generations.new.entries c
         ≡ (if is_one_of cells.now c then edit else generation_in generations.old.entries c) }

@@ -154,6 +154,7 @@ impl KeptCalculator {
         match self.store.apply_slice(changes) {
             Ok(()) => {
                 carry_over_edit(self.alloc, &self.graph, &mut self.carried);
+                self.generations.keep_over_edit(&self.graph);
                 self.graph.commit();
                 self.generations.stamp(cells, self.store.edits());
                 self.plans.forget(self.alloc);

@@ -9,6 +9,7 @@ mod generations;
 mod keeping;
 mod kept;
 mod last_worlds;
+mod late_stamps;
 pub mod laws;
 mod occupied;
 mod plain;

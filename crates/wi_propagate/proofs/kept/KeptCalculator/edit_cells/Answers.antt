@@ -1,4 +1,4 @@
-use Rattle.wi_propagate.proofs.Words.{◌≡◌, ◌∙◌, ℕ, Some, None, Ok, IfSome, ap, sym, subst, if◌then◌else◌, keys_of, unwrap_or, Stored, applied, in_cone, AreEdgesOf, Staging, staging, edges_after, KeptValues, KeptSheet, generation_in, AreKeptRight, AreCarriedCones, kept_sheet, values_in, flushed, AreKeptUp, ArePlans, rules}
+use Rattle.wi_propagate.proofs.Words.{◌≡◌, ◌∙◌, ◌⊎◌, ℕ, true, List, Option, is_one_of, IsUnread, Generations, HasGeneration, IsHeadOf, Some, None, Ok, IfSome, ap, sym, subst, if◌then◌else◌, keys_of, unwrap_or, Stored, applied, in_cone, AreEdgesOf, Staging, staging, edges_after, KeptValues, KeptSheet, generation_in, AreKeptRight, AreCarriedCones, kept_sheet, values_in, flushed, AreKeptUp, ArePlans, rules}
 use Rattle.wi_propagate.proofs.Editing.{edges_applied, refused_edit, refused_same, right_after_edit, right_unnamed, edit_flushed, edit_keeps_up}
 use Rattle.wi_propagate.proofs.StampSteps.{flushed_same, kept_up_more}
 use Rattle.wi_propagate.proofs.kept.KeptCalculator.edit_cells.Goals as goal
@@ -14,15 +14,22 @@ invariant_of-self-in-Ok c =
     let accepted : applied i.store ch ≡ Ok new = c.in-Ok.ensures in
     let edges = edges_applied i.graph.now i.store new ch h.1 accepted in
     let right = subst (λ (v : KeptValues). AreKeptRight (record { stored = i.store; generations = flushed i.store.sheet i.generations.edited_at; values = v; counts = i.meter })) (sym c.carry_over_edit.ensures.values) h.3 in
-    let flushed_is = edit_flushed i.store new ch i.generations c.mark_dirty.new.self c.stamp.new.self c.args.cells.now c.edits.result accepted c.requires c.edits.ensures c.in_ok-mark_dirty.ensures.edited_at c.stamp.ensures.edited_at h.5 in (
+    let still : (d : ℕ) → generation_in c.keep_over_edit.new.self.edited_at d ≡ generation_in i.generations.edited_at d = λ d.
+    ap (λ (ns : Generations). generation_in ns d) c.keep_over_edit.ensures.edited_at ∙ c.in_ok-mark_dirty.ensures.edited_at d in
+    let before = subst (λ (x : Staging). AreEdgesOf x.now i.store.sheet) (sym staged_is) h.1 in
+    let after = subst (λ (x : Staging). IfSome x.staged (λ es. AreEdgesOf es new.sheet)) (sym staged_is) edges in
+    let kept_head = c.keep_over_edit.ensures.head i.store.sheet new.sheet before after (subst (λ (o : Option ℕ). IsHeadOf i.store.sheet o c.mark_dirty.new.self.cone) (sym c.in_ok-mark_dirty.ensures.head.0) (subst (IsHeadOf i.store.sheet i.generations.head) (sym c.in_ok-mark_dirty.ensures.head.1) h.5.stamped.head)) in
+    let head_is = subst (λ (o : Option ℕ). IsHeadOf new.sheet o c.stamp.new.self.cone) (sym c.stamp.ensures.head.0) (subst (IsHeadOf new.sheet c.keep_over_edit.new.self.head) (sym c.stamp.ensures.head.1) kept_head) in
+    let flushed_is = edit_flushed i.store new ch i.generations c.keep_over_edit.new.self c.stamp.new.self c.args.cells.now c.edits.result accepted c.requires c.edits.ensures still c.stamp.ensures.edited_at h.5 in (
       c.carry_over_edit.ensures.there h.0,
       subst (λ (x : Staging). AreEdgesOf x.now new.sheet) (sym graph_is) edges,
       ap (λ (x : Staging). x.staged) graph_is,
       right_after_edit i.store new ch c.edits.result (flushed i.store.sheet i.generations.edited_at) (flushed new.sheet c.stamp.new.self.edited_at) _ i.meter i.meter accepted flushed_is c.edits.ensures right,
-      c.carry_over_edit.ensures.cones i.store.sheet new.sheet (subst (λ (x : Staging). AreEdgesOf x.now i.store.sheet) (sym staged_is) h.1)
-          (subst (λ (x : Staging). IfSome x.staged (λ es. AreEdgesOf es new.sheet)) (sym staged_is) edges) h.4,
-      edit_keeps_up i.store new ch i.generations c.mark_dirty.new.self c.stamp.new.self c.args.cells.now c.edits.result accepted c.requires c.edits.ensures c.in_ok-mark_dirty.ensures.edited_at c.stamp.ensures.edited_at h.5 c.in_ok-mark_dirty.ensures.valid_since c.in_ok-mark_dirty.ensures.stays
-          (λ x m. c.in_ok-mark_dirty.ensures.dirty i.store.sheet h.1 x m) c.stamp.ensures.valid_since c.stamp.ensures.dirty,
+      c.carry_over_edit.ensures.cones i.store.sheet new.sheet before after h.4,
+      edit_keeps_up i.store new ch i.generations c.keep_over_edit.new.self c.stamp.new.self c.args.cells.now c.edits.result accepted c.requires c.edits.ensures still c.stamp.ensures.edited_at h.5
+          (λ x m. subst (λ (xs : List ℕ). is_one_of xs x ≡ true) (sym c.keep_over_edit.ensures.dirty) (c.in_ok-mark_dirty.ensures.stays x m))
+          (λ x m. subst (λ (xs : List ℕ). (is_one_of xs x ≡ true) ⊎ IsUnread i.store.sheet x) (sym c.keep_over_edit.ensures.dirty) (c.in_ok-mark_dirty.ensures.dirty i.store.sheet h.1 x m))
+          (λ d. ap (λ (ns : Generations). generation_in ns d) c.stamp.ensures.valid_since ∙ c.keep_over_edit.ensures.valid_since d ∙ ap (λ (ns : Generations). generation_in ns d) c.in_ok-mark_dirty.ensures.valid_since) c.stamp.ensures.dirty head_is,
       c.forget.ensures new.sheet,
     )
 
@@ -31,18 +38,20 @@ returns-in-Ok-clause-edited c =
     let i = c.self.inside in
     let ch = c.args.changes.now in
     let new = c.apply_slice.new.self in
+    let still : (d : ℕ) → generation_in c.keep_over_edit.new.self.edited_at d ≡ generation_in i.generations.edited_at d = λ d.
+    ap (λ (ns : Generations). generation_in ns d) c.keep_over_edit.ensures.edited_at ∙ c.in_ok-mark_dirty.ensures.edited_at d in
     let values_are : values_in c.carry_over_edit.new.carried ≡ c.args.self.now.values = c.carry_over_edit.ensures.values ∙ ap (λ (k : KeptSheet). k.values) c.self.view_is in
     record {
       same_counts = ap (λ (k : KeptSheet). k.counts) c.self.view_is;
       same_values = search values_are;
       generations = subst
           (λ (k : KeptSheet). (d : ℕ) → generation_in (flushed new.sheet c.stamp.new.self.edited_at) d ≡ (if in_cone k.stored.sheet (keys_of ch) d then new.edits else generation_in k.generations d)) c.self.view_is
-          (λ d. edit_flushed i.store new ch i.generations c.mark_dirty.new.self c.stamp.new.self c.args.cells.now c.edits.result c.in-Ok.ensures c.requires c.edits.ensures c.in_ok-mark_dirty.ensures.edited_at c.stamp.ensures.edited_at c.self.invariant.5 d
+          (λ d. edit_flushed i.store new ch i.generations c.keep_over_edit.new.self c.stamp.new.self c.args.cells.now c.edits.result c.in-Ok.ensures c.requires c.edits.ensures still c.stamp.ensures.edited_at c.self.invariant.5 d
           ∙ ap (λ (n : ℕ). if in_cone i.store.sheet (keys_of ch) d then n else generation_in (flushed i.store.sheet i.generations.edited_at) d) c.edits.ensures);
     }
 
 pub stamp-requires : goal.stamp-requires
-stamp-requires c = c.in_ok-mark_dirty.ensures.there
+stamp-requires c = λ d m. subst (λ (ns : Generations). HasGeneration ns d) (sym c.keep_over_edit.ensures.edited_at) (c.in_ok-mark_dirty.ensures.there d m)
 
 pub invariant_of-self : goal.invariant_of-self
 invariant_of-self c =
@@ -53,7 +62,7 @@ invariant_of-self c =
       h.2,
       right_unnamed i.store i.generations c.mark_dirty.new.self c.mark_dirty.ensures.edited_at _ i.meter h.3,
       h.4,
-      kept_up_more i.store.sheet i.generations c.mark_dirty.new.self i.store.edits c.mark_dirty.ensures.edited_at c.mark_dirty.ensures.valid_since c.mark_dirty.ensures.stays h.5,
+      kept_up_more i.store.sheet i.generations c.mark_dirty.new.self i.store.edits c.mark_dirty.ensures.edited_at c.mark_dirty.ensures.valid_since c.mark_dirty.ensures.head c.mark_dirty.ensures.stays h.5,
       h.6,
     )
 
@@ -72,7 +81,7 @@ invariant_of-self-in_err-stage c =
       ap (λ (x : Staging). x.staged) c.in_err-stage.ensures.err ∙ h.2,
       right_unnamed i.store i.generations c.mark_dirty.new.self c.mark_dirty.ensures.edited_at _ i.meter h.3,
       h.4,
-      kept_up_more i.store.sheet i.generations c.mark_dirty.new.self i.store.edits c.mark_dirty.ensures.edited_at c.mark_dirty.ensures.valid_since c.mark_dirty.ensures.stays h.5,
+      kept_up_more i.store.sheet i.generations c.mark_dirty.new.self i.store.edits c.mark_dirty.ensures.edited_at c.mark_dirty.ensures.valid_since c.mark_dirty.ensures.head c.mark_dirty.ensures.stays h.5,
       h.6,
     )
 
@@ -94,7 +103,7 @@ invariant_of-self-in-Err c =
       ap (λ (x : Staging). x.staged) graph_is,
       subst (λ (x : Stored). AreKeptRight (kept_sheet x (flushed x.sheet c.mark_dirty.new.self.edited_at) i.carried i.meter)) (sym store_is) (right_unnamed i.store i.generations c.mark_dirty.new.self c.mark_dirty.ensures.edited_at _ i.meter h.3),
       subst (λ (x : Stored). AreCarriedCones x.sheet i.carried) (sym store_is) h.4,
-      subst (λ (x : Stored). AreKeptUp x.sheet x.edits c.mark_dirty.new.self) (sym store_is) (kept_up_more i.store.sheet i.generations c.mark_dirty.new.self i.store.edits c.mark_dirty.ensures.edited_at c.mark_dirty.ensures.valid_since c.mark_dirty.ensures.stays h.5),
+      subst (λ (x : Stored). AreKeptUp x.sheet x.edits c.mark_dirty.new.self) (sym store_is) (kept_up_more i.store.sheet i.generations c.mark_dirty.new.self i.store.edits c.mark_dirty.ensures.edited_at c.mark_dirty.ensures.valid_since c.mark_dirty.ensures.head c.mark_dirty.ensures.stays h.5),
       subst (λ (x : Stored). ArePlans x.sheet i.plans) (sym store_is) h.6,
     )
 

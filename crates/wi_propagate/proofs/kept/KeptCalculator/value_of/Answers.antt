@@ -1,6 +1,6 @@
 use Rattle.wi_propagate.proofs.Words.{Some, is_ok, ◌≡◌, ◌∙◌, inl, inr, IfOk, OnOk, List, false, true, refl, ap, sym, subst, IfOk-weaker, Replacement, content_of, has_formula, put_all, circular, shown, case_of, reaching, demanded, HasCase, demands_itself, different_closed, shown_circular, shown_value, KeptSheet, generation_in, IsAtHand, is_kept, flushed, stamped_in, Owes}
 use Rattle.wi_propagate.proofs.StampSteps.{all_stamped}
-use Rattle.wi_propagate.proofs.FlushingSteps.{dirty_over}
+use Rattle.wi_propagate.proofs.HeadSteps.{stamped_over}
 use Rattle.wi_propagate.proofs.Questions.{but_plans, with_plans, begins, begun_right, may_be_read, asked_kept, at_hand_is, owes_none, owes_flushed, owes_spent, flushed_view, settled_right, holds_asked, holds_settled}
 use Rattle.wi_propagate.proofs.kept.KeptCalculator.value_of.Goals as goal
 
@@ -61,7 +61,7 @@ invariant_of-self-2 c =
     with_plans (Some c.into_carried.result) i.graph i.store c.flush.new.self c.planned_cell-result.new.question.meter c.planned_cell-result.new.plans (holds_asked i.carried i.graph i.store c.flush.new.self i.meter c.planned_cell-result.new.question.meter c.new-memo.result c.planned_cell-result.new.question.memo c.into_carried.result
     (begins i.store (flushed i.store.sheet c.flush.new.self.edited_at) i.carried i.meter _ c.new-memo.result c.take_carried-carried.ensures.values c.new-memo.ensures.value c.new-memo.ensures.placed)
     e.spends.same c.into_carried.ensures.kept e.spends.right.sheet c.into_carried.ensures.right c.into_carried.ensures.cones
-    (holds_settled i.carried i.graph i.store i.generations c.flush.new.self i.meter c.in_ok-flush.ensures.edited_at (c.in_ok-flush.ensures.dirty i.store.sheet c.self.invariant.1) (but_plans i.carried i.graph i.store i.generations i.meter i.plans c.self.invariant))) c.planned_cell-result.ensures.plans
+    (holds_settled i.carried i.graph i.store i.generations c.flush.new.self i.meter c.in_ok-flush.ensures.edited_at (c.in_ok-flush.ensures.stamped i.store.sheet c.self.invariant.1) (but_plans i.carried i.graph i.store i.generations i.meter i.plans c.self.invariant))) c.planned_cell-result.ensures.plans
 
 pub returns-clause-value : goal.returns-clause-value
 returns-clause-value c =
@@ -128,13 +128,12 @@ returns-clause-owes c =
     subst (λ (x : KeptSheet). Owes x new (demanded x.stored.sheet c.args.replacements.now c.args.at) (is_ok c.planned_cell-result.result)) view
     (owes_spent q c.planned_cell-result.new.question.memo c.into_carried.result.value.kept c.planned_cell-result.new.question.meter c.into_carried.ensures.kept c.into_carried.ensures.within Has (demanded i.store.sheet c.args.replacements.now c.args.at) closed has _ c.planned_cell-result.ensures.values.spends)
 
-pub flush-requires-clause-dirty : goal.flush-requires-clause-dirty
-flush-requires-clause-dirty c =
-    λ s a. dirty_over c.self.inside.graph.now c.self.inside.store.sheet s (generation_in c.self.inside.generations.edited_at) c.self.inside.generations.dirty (stamped_in c.self.inside.generations.edited_at c.self.inside.generations.valid_since) c.self.invariant.1 a c.self.invariant.5.dirty
+pub flush-requires-clause-stamped : goal.flush-requires-clause-stamped
+flush-requires-clause-stamped c = λ s a. stamped_over c.self.inside.graph.now c.self.inside.store.sheet s c.self.inside.generations c.self.invariant.1 a c.self.invariant.5.stamped
 
 pub new-memo-requires-clause-valid_since : goal.new-memo-requires-clause-valid_since
 new-memo-requires-clause-valid_since c =
-    all_stamped c.self.inside.store.sheet c.self.inside.store.edits c.self.inside.generations c.flush.new.self c.in_ok-flush.ensures.edited_at (c.in_ok-flush.ensures.dirty c.self.inside.store.sheet c.self.invariant.1) c.in_ok-flush.ensures.clean c.self.invariant.5
+    all_stamped c.self.inside.store.sheet c.self.inside.store.edits c.self.inside.generations c.flush.new.self c.in_ok-flush.ensures.edited_at (c.in_ok-flush.ensures.stamped c.self.inside.store.sheet c.self.invariant.1) c.in_ok-flush.ensures.clean c.self.invariant.5
 
 pub returns-in_err-flush-clause-owes : goal.returns-in_err-flush-clause-owes
 returns-in_err-flush-clause-owes c =
@@ -146,7 +145,7 @@ returns-in_err-flush-clause-easy c = λ h. ap (λ (k : KeptSheet). k.counts) c.s
 pub invariant_of-self : goal.invariant_of-self
 invariant_of-self c =
     let i = c.self.inside in
-    with_plans i.carried i.graph i.store c.flush.new.self i.meter i.plans (holds_settled i.carried i.graph i.store i.generations c.flush.new.self i.meter c.flush.ensures.edited_at (c.flush.ensures.dirty i.store.sheet c.self.invariant.1) (but_plans i.carried i.graph i.store i.generations i.meter i.plans c.self.invariant)) c.self.invariant.6
+    with_plans i.carried i.graph i.store c.flush.new.self i.meter i.plans (holds_settled i.carried i.graph i.store i.generations c.flush.new.self i.meter c.flush.ensures.edited_at (c.flush.ensures.stamped i.store.sheet c.self.invariant.1) (but_plans i.carried i.graph i.store i.generations i.meter i.plans c.self.invariant)) c.self.invariant.6
 
 pub planned_cell-result-requires-clause-plans : goal.planned_cell-result-requires-clause-plans
 planned_cell-result-requires-clause-plans c = c.self.invariant.6
