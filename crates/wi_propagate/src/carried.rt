@@ -7,12 +7,11 @@ ghost use Rattle.wi_graph.specs.Edges.{AreEdgesOf};
 ghost use Rattle.wi_propagate.specs.Inner.Cones.{AreAllCones};
 ghost use Rattle.wi_propagate.specs.Inner.Keeping.{values_in, AreCarriedCones};
 
-use crate::cones::{keep_if_few, keep_over_edit};
+use crate::cones::{Cones, keep_if_few, keep_over_edit};
 use crate::recurring::Recurring;
 use std::alloc::{AllocError, Global};
 use wi_cache::{GivenUp, Kept};
 use wi_graph::Graph;
-use wi_worlds::Reaches;
 
 /// What a question takes over from the one before, and leaves to the next. It stands in a box, so that each question
 /// moves a pointer.
@@ -20,7 +19,7 @@ use wi_worlds::Reaches;
 pub struct Carried {
     pub kept: Kept,
     /// Of some cells that were replaced since the last accepted edit: which cells reach them.
-    pub cones: Reaches,
+    pub cones: Cones,
     /// The values that were given up in a question. Between two questions it is memory alone.
     pub given_up: GivenUp,
     /// Which replacements come back, by which values have a place in a full list.
@@ -38,7 +37,7 @@ impl Carried {
         let kept = Kept::new(alloc, keep)?;
         let carried = Carried {
             kept,
-            cones: Reaches::new(alloc),
+            cones: Cones::new(alloc),
             given_up: GivenUp::new(alloc),
             recurring: Recurring::new(alloc, keep),
         };
@@ -52,7 +51,7 @@ impl Carried {
         ensures cones { (s : Sheet) → AreAllCones s self.new.cones }
     {
         self.kept.forget(alloc);
-        self.cones = Reaches::new(alloc);
+        self.cones = Cones::new(alloc);
         self.given_up = GivenUp::new(alloc);
         self.recurring.forget();
     }

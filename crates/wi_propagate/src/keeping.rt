@@ -166,7 +166,7 @@ impl<'a> Memo for Keeping<'a> {
     fn key(&mut self, at: Address, world: &World) -> Result<Key, AllocError> {
         let carried = &mut *self.carried;
         add_cones(self.graph, world, &mut carried.cones)?;
-        let world = world.reaching_by(at, &carried.cones, &mut self.last)?;
+        let world = world.reaching_by(at, carried.cones.reaches(), &mut self.last)?;
         let key = Key {
             cell: at,
             generation: self.generations.generation_of(at),

@@ -1,9 +1,9 @@
-use Rattle.wi_propagate.proofs.Words.{Option, subst, IfSome, Edges, AreEdgesOf}
+use Rattle.wi_propagate.proofs.Words.{◌∙◌, Option, subst, sym, IfSome, Edges, AreEdgesOf}
 use Rattle.wi_propagate.proofs.KeptCones.{cones_over, none_recorded}
 use Rattle.wi_propagate.proofs.cones.keep_over_edit.Goals as goal
 
 pub returns-then-is_empty : goal.returns-then-is_empty
-returns-then-is_empty c = λ s t a b h. none_recorded t c.args.cones.now (c.is_empty.ensures.0 c.if-is_empty.true)
+returns-then-is_empty c = λ s t a b h. none_recorded t c.args.cones.now (sym c.reaches.ensures ∙ c.is_empty.ensures.0 c.if-is_empty.true)
 
 pub returns-else-not-reads_stay : goal.returns-else-not-reads_stay
 returns-else-not-reads_stay c =

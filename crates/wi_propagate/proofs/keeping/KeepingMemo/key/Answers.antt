@@ -1,4 +1,4 @@
-use Rattle.wi_propagate.proofs.Words.{◌∙◌, ap, sym, subst, reaching, AreAllCones, Entries, Carried, Keeping, generation_in, keeping, state_in, flushed}
+use Rattle.wi_propagate.proofs.Words.{◌∙◌, ap, sym, subst, filter, reaching, is_reached_by, ReachTable, AreAllCones, Entries, Carried, Keeping, generation_in, keeping, state_in, flushed}
 use Rattle.wi_propagate.proofs.ReplacedCones.{worlds_all}
 use Rattle.wi_propagate.proofs.StampSteps.{stamped_is_flushed}
 use Rattle.wi_propagate.proofs.keeping.KeepingMemo.key.Goals as goal
@@ -7,7 +7,7 @@ pub returns-clause-world : goal.returns-clause-world
 returns-clause-world c =
     let s = c.self.inside.store.now.sheet in
     let h = c.self.invariant in
-    let part = c.in_ok-world.ensures.list ∙ worlds_all s c.add_cones.new.cones c.args.at (c.in_ok-add_cones.ensures.cones s h.0 (subst (λ (x : Carried). AreAllCones s x.cones) (sym c.deref_mut-carried.ensures.value) h.2)) c.args.world.now c.in_ok-add_cones.ensures.all
+    let part = c.in_ok-world.ensures.list ∙ ap (λ (t : ReachTable). filter (is_reached_by t c.args.at) c.args.world.now) c.reaches.ensures ∙ worlds_all s c.add_cones.new.cones c.args.at (c.in_ok-add_cones.ensures.cones s h.0 (subst (λ (x : Carried). AreAllCones s x.cones) (sym c.deref_mut-carried.ensures.value) h.2)) c.args.world.now c.in_ok-add_cones.ensures.all
     ∙ ap (λ (q : Keeping). reaching q.sheet c.args.at c.args.world.now) c.self.view_is in
     search part
 
