@@ -3,7 +3,7 @@
 use std::alloc::Global;
 use std::collections::HashSet;
 use std::process::Abort;
-use wi_fraction::{Fraction, laws};
+use wi_fraction::{Fraction, Total, laws};
 
 fn fraction(rt: &impl Abort, numerator: i128, denominator: i128) -> Fraction {
     Fraction::new(numerator, denominator).expect(rt, "a fraction")
@@ -38,6 +38,52 @@ fn hashes(rt: HostRuntime) {
     assert!(rt; seen.contains(&fraction(&rt, -4, -8)));
     assert!(rt; !seen.contains(&fraction(&rt, -1, 2)));
     drop(seen);
+}
+
+/// The total of these, added one after another from 0.
+fn total_of(numbers: &[Fraction]) -> Option<Fraction> {
+    let mut total = Total::of(Fraction::small(0));
+    for number in numbers {
+        if total.add(number).is_err() {
+            return None;
+        }
+    }
+    Some(total.number())
+}
+
+#[test]
+fn totals_are_in_lowest_terms(rt: HostRuntime) {
+    let half = fraction(&rt, 1, 2);
+    let third = fraction(&rt, 1, 3);
+    let sixth = fraction(&rt, 1, 6);
+    let tenth = fraction(&rt, 1, 10);
+    assert!(rt; total_of(&[half, third, sixth]) == Some(fraction(&rt, 1, 1)));
+    assert!(rt; total_of(&[tenth, tenth, half, tenth]) == Some(fraction(&rt, 4, 5)));
+    assert!(rt; total_of(&[third, sixth.neg(), sixth.neg()]) == Some(fraction(&rt, 0, 1)));
+}
+
+#[test]
+fn totals_overflow_as_sums_do(rt: HostRuntime) {
+    let most = fraction(&rt, i128::MAX, 1);
+    let one = fraction(&rt, 1, 1);
+    let least_part = fraction(&rt, 1, i128::MAX);
+    assert!(rt; total_of(&[most, one]) == None);
+    assert!(rt; total_of(&[most.neg(), one.neg()]) == None);
+    assert!(rt; total_of(&[most, one.neg(), one]) == Some(most));
+    assert!(rt; total_of(&[least_part, fraction(&rt, 1, 2)]) == None);
+    assert!(rt; total_of(&[least_part, least_part]) == Some(fraction(&rt, 2, i128::MAX)));
+}
+
+#[test]
+fn a_total_stays_where_a_number_overflows(rt: HostRuntime) {
+    let most = fraction(&rt, i128::MAX, 1);
+    let mut total = Total::of(most);
+    assert!(rt; total.add(&fraction(&rt, 1, 3)).is_err());
+    assert!(rt; total.number() == most);
+    total
+        .add(&fraction(&rt, -7, 1))
+        .expect(&rt, "a smaller total");
+    assert!(rt; total.number() == fraction(&rt, i128::MAX - 7, 1));
 }
 
 #[test]

@@ -123,6 +123,31 @@ fn readers_stand_in_order(rt: HostRuntime) {
     );
 }
 
+/// A search that has been asked of many cells, which nothing reads, still tells the readers of others.
+#[test]
+fn a_long_search_tells_readers(rt: HostRuntime) {
+    let mut index = RangeIndex::new(rt.alloc());
+    take_all(&rt, &mut index, "A1:A9 C1, A20:A40 D1, B7 E1, A41:B50 E2");
+    let mut search = index.search();
+    for row in 0..20 {
+        let found = search.readers_of(Address::at(row, 25)).expect(&rt, "none");
+        assert!(rt; found.is_empty());
+    }
+    let rows = [
+        ("A5", "C1 "),
+        ("A20", "D1 "),
+        ("B7", "E1 "),
+        ("B50", "E2 "),
+        ("B8", ""),
+    ];
+    for (at, wanted) in rows {
+        let found = search.readers_of(cell(&rt, at)).expect(&rt, at);
+        expect_addresses(&rt, rt.alloc(), at, &found, wanted);
+    }
+    drop(search);
+    drop(index);
+}
+
 /// The pair of this number: ten rows of column A, and one of 250 cells of column B as their reader. Those from 500 on
 /// are equal to those before.
 fn numbered(number: u32) -> (Rect, Address) {
