@@ -49,6 +49,7 @@ pub(crate) fn tiles_in<V>(parts: &[(u32, Tile<V>)], area: Rect) -> &[(u32, Tile<
 
 /// Turns to the first tile, in a band's rows from a row and a column on, that has something of a rectangle. The tiles
 /// before a first place lie left of the column.
+#[inline(never)]
 pub(crate) fn turn_beside<'a, V>(
     tiles: &'a [(u32, Tile<V>)],
     area: Rect,

@@ -32,6 +32,7 @@ pub(crate) fn found_from<V>(pages: &Pages<V>, area: Rect, from: Address) -> Opti
 
 /// Turns to the next tile of which a rectangle has something, from a row and a column on, where tiles of the row's band
 /// may be at hand: those before a first place lie left of the column.
+#[inline(always)]
 pub(crate) fn turn_on<'a, V>(
     pages: &'a Pages<V>,
     area: Rect,

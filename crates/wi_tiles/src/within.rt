@@ -6,7 +6,7 @@ ghost use Rattle.std.specs.Map.Iter.{TakesFirst};
 ghost use Rattle.wi_tiles.specs.Inner.Cells.{is_ahead};
 ghost use Rattle.wi_tiles.specs.Inner.Entries.{entries_of};
 ghost use Rattle.wi_tiles.specs.Inner.Lines.{slot};
-ghost use Rattle.wi_tiles.specs.Inner.Within.{entry, filled, CountsFirst, IsFirstLeft};
+ghost use Rattle.wi_tiles.specs.Inner.Within.{filled, step_entry, CountsFirst, IsFirstLeft};
 
 use crate::band::Tiles;
 use crate::found::turn_on;
@@ -73,17 +73,17 @@ impl<'a, V> Within<'a, V> {
         }
     }
 
-    /// The next entry, where nothing may be left of the tile. It is never inlined, so that a step from one cell of a
-    /// tile to the next takes little.
-    #[inline(never)]
-    fn next_turned(&mut self) -> Option<(Address, &'a V)>
-        ensures { TakesFirst entry self.old result self.new }
+    /// The next entry, by a cell of its tile and its bit there: so its own cell is reckoned only where it is wanted.
+    #[inline(always)]
+    fn step(&mut self) -> Option<(Address, u32, &'a V)>
+        ensures steps { TakesFirst step_entry self.old result self.new }
+        ensures within { IfSome result (λ x. x.1 < 64) }
     {
         match first_left(self.tile, self.left, self.before, self.whole) {
             Some(found) => {
                 self.left = without(self.left, found.0);
                 self.before = found.1 + 1;
-                Some((cell_in(self.corner, found.0), found.2))
+                Some((self.corner, found.0, found.2))
             }
             None => match turn_on(
                 self.pages,
@@ -104,7 +104,7 @@ impl<'a, V> Within<'a, V> {
                     self.column = turn.column;
                     self.tiles = turn.tiles;
                     self.first = turn.first;
-                    Some((cell_in(turn.corner, bit), turn.tile.value_at(turn.before)))
+                    Some((turn.corner, bit, turn.tile.value_at(turn.before)))
                 }
                 None => None,
             },
@@ -126,14 +126,11 @@ impl<'a, V> Iterator for Within<'a, V> {
 
     /// A step among the bits of a tile for each cell, and one search for each 16 rows; and where more than one of their
     /// tiles lie in the rectangle, one step more for each tile of each row.
+    #[inline(always)]
     fn next(&mut self) -> Option<(Address, &'a V)> {
-        match first_left(self.tile, self.left, self.before, self.whole) {
-            Some(found) => {
-                self.left = without(self.left, found.0);
-                self.before = found.1 + 1;
-                Some((cell_in(self.corner, found.0), found.2))
-            }
-            None => self.next_turned(),
+        match self.step() {
+            Some(found) => Some((cell_in(found.0, found.1), found.2)),
+            None => None,
         }
     }
 }

@@ -20,6 +20,10 @@ bit_of c = row_of c % 16 * 4 + column_of c % 4
 abbrev pub cell_in : ℕ → ℕ → ℕ
 cell_in corner b = place (row_of corner / 16 * 16 + b / 4) (column_of corner / 4 * 4 + b % 4)
 
+-- a value that is lent, with a cell of its tile and its bit there
+abbrev pub step_entry : {V : Type 0} → ℕ × ℕ × Bor V → ℕ × V
+step_entry x = (cell_in x.0 x.1, x.2.now)
+
 -- the tile of a cell
 abbrev pub in_band_tile : {V : Type 0} → Option (Band V) → ℕ → Option (List (Option V))
 in_band_tile None g = None
