@@ -1,6 +1,6 @@
 // Sums, products, quotients and the other sign.
 
-ghost use Rattle.std.specs.Prelude.{◌≡◌, ◌≢◌, ◌*◌, ◌<◌, ◌≤◌, pos, ◌+ℤ◌, ◌-ℤ◌, ◌*ℤ◌, ok_or, if◌then◌else◌, IfOk};
+ghost use Rattle.std.specs.Prelude.{◌≡◌, ◌≢◌, ◌*◌, ◌<◌, ◌≤◌, ◌+◌, pos, unsigned_abs, IsTrue, ◌+ℤ◌, ◌-ℤ◌, ◌*ℤ◌, ok_or, if◌then◌else◌, IfOk};
 ghost use Rattle.std.specs.Ordering.{int_eq};
 ghost use Rattle.wi_fraction.specs.Gcd.{gcd};
 ghost use Rattle.wi_fraction.specs.Number.{max_size, number_of, with_minus};
@@ -10,7 +10,7 @@ ghost use Rattle.wi_fraction.specs.Inner.Bounds.{bounded, int_bounded};
 use crate::division::{divide, gcd};
 use crate::lowest_terms::{integer, number_at, reduced};
 use crate::words::Parts;
-use crate::{Fraction, FractionError, MAX};
+use crate::{Fraction, FractionError, MAX, SMALL};
 
 impl Fraction {
     /// The sum, which overflows where the least common multiple of the denominators, a numerator scaled to it, or
@@ -231,7 +231,35 @@ pub(crate) fn scaled(n: i128, by: u128) -> Option<i128>
 pub(crate) fn total(a: i128, b: i128) -> Option<i128>
     ensures { result ≡ int_bounded (a +ℤ b) }
 {
+    if are_small(a, b) {
+        Some(a + b)
+    } else {
+        large_total(a, b)
+    }
+}
+
+/// As `total`, of any numerators.
+#[inline(never)]
+fn large_total(a: i128, b: i128) -> Option<i128>
+    ensures { result ≡ int_bounded (a +ℤ b) }
+{
     bounded(a.checked_add(b)?)
+}
+
+/// Whether two numerators are so small that their sum is never too large.
+#[inline(always)]
+fn are_small(a: i128, b: i128) -> bool
+    ensures { IsTrue result → unsigned_abs a + unsigned_abs b ≤ max_size }
+{
+    is_small(a) && is_small(b)
+}
+
+/// Whether a numerator is at most half as large as one may be.
+#[inline(always)]
+fn is_small(n: i128) -> bool
+    ensures { IsTrue result → unsigned_abs n * 2 ≤ max_size }
+{
+    -SMALL < n && n < SMALL
 }
 
 /// The number, where it is small enough.
