@@ -130,6 +130,11 @@ like_sum n d y x (Some m) p same e oe =
     subst (λ (z : Number). IsSumOver n d z m) same
     (sum_with_parts n d x m p (subst (λ v. x.den ∣ v) e (dvd_refl x.den)) (subst (λ v. unsigned_abs v ≤ max_size) (sym itself) x.is_number.num_fits) (mw.0 ∙ ap (λ v. n +ℤ v) (sym itself)) (subst (λ v. unsigned_abs v ≤ max_size) (sym mw.0) mw.1))
 
+-- and where that is promised of some alone
+pub small_like_sum : (n : ℤ) (d : ℕ) (y x : Number) (o : Option ℤ) → AreParts n d → x ≡ y → x.den ≡ d → IfSome o (λ m. Some m ≡ int_bounded (n +ℤ x.num)) → IfSome o (IsSumOver n d y)
+small_like_sum n d y x None p same e oe = tt
+small_like_sum n d y x (Some m) p same e oe = like_sum n d y x (Some m) p same e oe
+
 -- a number by its own parts
 pub own_parts : (x : Number) (n : ℤ) (d : ℕ) → n ≡ x.num → d ≡ x.den → number_over n d ≡ x
 unfolding number_over

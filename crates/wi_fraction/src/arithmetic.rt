@@ -1,6 +1,6 @@
 // Sums, products, quotients and the other sign.
 
-ghost use Rattle.std.specs.Prelude.{◌≡◌, ◌≢◌, ◌*◌, ◌<◌, ◌≤◌, ◌+◌, pos, unsigned_abs, IsTrue, ◌+ℤ◌, ◌-ℤ◌, ◌*ℤ◌, ok_or, if◌then◌else◌, IfOk};
+ghost use Rattle.std.specs.Prelude.{◌≡◌, ◌≢◌, ◌*◌, ◌<◌, ◌≤◌, ◌^◌, pos, ◌+ℤ◌, ◌-ℤ◌, ◌*ℤ◌, unsigned_abs, ok_or, if◌then◌else◌, IsTrue, Some, IfSome, IfOk};
 ghost use Rattle.std.specs.Ordering.{int_eq};
 ghost use Rattle.wi_fraction.specs.Gcd.{gcd};
 ghost use Rattle.wi_fraction.specs.Number.{max_size, number_of, with_minus};
@@ -231,35 +231,27 @@ pub(crate) fn scaled(n: i128, by: u128) -> Option<i128>
 pub(crate) fn total(a: i128, b: i128) -> Option<i128>
     ensures { result ≡ int_bounded (a +ℤ b) }
 {
-    if are_small(a, b) {
-        Some(a + b)
-    } else {
-        large_total(a, b)
-    }
-}
-
-/// As `total`, of any numerators.
-#[inline(never)]
-fn large_total(a: i128, b: i128) -> Option<i128>
-    ensures { result ≡ int_bounded (a +ℤ b) }
-{
     bounded(a.checked_add(b)?)
 }
 
-/// Whether two numerators are so small that their sum is never too large.
+/// The sum of two numerators, where both are so small that it can't be too large: found with few tests.
 #[inline(always)]
-fn are_small(a: i128, b: i128) -> bool
-    ensures { IsTrue result → unsigned_abs a + unsigned_abs b ≤ max_size }
+pub(crate) fn small_total(a: i128, b: i128) -> Option<i128>
+    ensures { IfSome result (λ c. Some c ≡ int_bounded (a +ℤ b)) }
 {
-    is_small(a) && is_small(b)
+    if is_small(a) && is_small(b) {
+        Some(a + b)
+    } else {
+        None
+    }
 }
 
-/// Whether a numerator is at most half as large as one may be.
+/// Whether a numerator is at most a quarter as large as one may be.
 #[inline(always)]
 fn is_small(n: i128) -> bool
-    ensures { IsTrue result → unsigned_abs n * 2 ≤ max_size }
+    ensures { IsTrue result → unsigned_abs n ≤ 2 ^ 125 }
 {
-    -SMALL < n && n < SMALL
+    -SMALL <= n && n < SMALL
 }
 
 /// The number, where it is small enough.

@@ -4,7 +4,7 @@ ghost use Rattle.std.specs.Prelude.{◌≡◌, OnOk, OnErr, IfErr, IfSome, Some,
 ghost use Rattle.wi_fraction.specs.Arithmetic.{sum_of};
 ghost use Rattle.wi_fraction.specs.Inner.Totals.{AreParts, IsSumOver};
 
-use crate::arithmetic::{scaled, total};
+use crate::arithmetic::{scaled, small_total, total};
 use crate::division::{divide, remainder};
 use crate::lowest_terms::reduced;
 use crate::words::{Parts, Signed, Unsigned};
@@ -56,6 +56,23 @@ impl Total {
         ensures err { OnErr result (sum_of self.old other.now ≡ None) }
         ensures same { OnErr result (self.new ≡ self.old) }
     {
+        match small_sum(self.numerator.get(), self.denominator.get(), other) {
+            Some(numerator) => {
+                self.numerator = Signed::new(numerator);
+                Ok(())
+            }
+            None => self.add_any(other),
+        }
+    }
+
+    /// As `add`, of any number. It stands apart, so that a small one over the same denominator is added at once.
+    #[inline(never)]
+    fn add_any(&mut self, other: &Fraction) -> Result<(), FractionError>
+        ensures ok { OnOk result (sum_of self.old other.now ≡ Some self.new) }
+        ensures overflow { IfErr result (λ e. e ≡ FractionError.Overflow) }
+        ensures err { OnErr result (sum_of self.old other.now ≡ None) }
+        ensures same { OnErr result (self.new ≡ self.old) }
+    {
         match numerator_with(self.numerator.get(), self.denominator.get(), other) {
             Some(numerator) => {
                 self.numerator = Signed::new(numerator);
@@ -92,9 +109,26 @@ impl Total {
     }
 }
 
+/// The numerator of the sum of n/d and a number, over d, where that is the number's denominator too and both numerators
+/// are small.
+#[inline(always)]
+fn small_sum(n: i128, d: u128, other: &Fraction) -> Option<i128>
+    requires { AreParts n d }
+    ensures { IfSome result (λ m. IsSumOver n d other.now m) }
+{
+    let Parts {
+        numerator,
+        denominator,
+    } = other.parts();
+    if denominator == d {
+        small_total(n, numerator)
+    } else {
+        None
+    }
+}
+
 /// The numerator of the sum of n/d and a number, over d, where the number's denominator divides d and no part of it is
 /// too large.
-#[inline(always)]
 fn numerator_with(n: i128, d: u128, other: &Fraction) -> Option<i128>
     requires { AreParts n d }
     ensures { IfSome result (λ m. IsSumOver n d other.now m) }
