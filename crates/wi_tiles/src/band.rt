@@ -5,7 +5,7 @@ ghost use Rattle.wi_values.specs.Address.{rows, columns, place, row_of, column_o
 ghost use Rattle.wi_tiles.specs.Inner.Cells.{Pages};
 ghost use Rattle.wi_tiles.specs.Inner.Lines.{cell};
 ghost use Rattle.wi_tiles.specs.Inner.Next.{HasNoneAbove};
-ghost use Rattle.wi_tiles.specs.Inner.Sorted.{find, Rises};
+ghost use Rattle.wi_tiles.specs.Inner.Sorted.{find, key, Rises};
 ghost use Rattle.wi_tiles.specs.Inner.Turns.{LeadsOn};
 ghost use Rattle.wi_tiles.specs.Inner.Within.{AreTiles, AreOfBand, IsPlace, IsNextTile};
 
@@ -36,15 +36,32 @@ pub(crate) struct Turn<'a, V> {
 }
 
 /// Those of the tiles of a band.
+#[inline(always)]
 pub(crate) fn tiles_in<V>(parts: &[(u32, Tile<V>)], area: Rect) -> &[(u32, Tile<V>)]
     requires { Rises parts.now }
     ensures tiles { AreTiles area result.now }
     ensures same { (g : ℕ) → column_of area.first / 4 ≤ g → g ≤ column_of area.last / 4
         → find g result.now ≡ find g parts.now }
 {
+    if is_only(parts, area.first().column() / 4, area.last().column() / 4) {
+        return parts;
+    }
     let low = place_from(parts, area.first().column() / 4);
     let high = place_from(parts, area.last().column() / 4 + 1);
     &parts[low..high]
+}
+
+/// Whether there is one tile, and its group of columns is one of these.
+#[inline(always)]
+fn is_only<V>(parts: &[(u32, Tile<V>)], low: u32, high: u32) -> bool
+    ensures { IsTrue result → (length parts.now ≡ 1) × (low ≤ key parts.now 0)
+        × (key parts.now 0 ≤ high) }
+{
+    if parts.len() != 1 {
+        return false;
+    }
+    let part = &parts[0];
+    low <= part.0 && part.0 <= high
 }
 
 /// Turns to the first tile, in a band's rows from a row and a column on, that has something of a rectangle. The tiles
@@ -128,6 +145,7 @@ fn next_tile<V>(
 }
 
 /// Turns to the first of these tiles that has something of a rectangle, from a row and a column on.
+#[inline(always)]
 pub(crate) fn turn_among<'a, V>(
     tiles: &'a [(u32, Tile<V>)],
     area: Rect,
@@ -162,6 +180,7 @@ fn is_alone<V>(tiles: &[(u32, Tile<V>)], area: Rect, column: u32) -> bool
 }
 
 /// Turns to the only tile, for all of the rectangle's rows from one on at once.
+#[inline(always)]
 fn turn_alone<'a, V>(
     tiles: &'a [(u32, Tile<V>)],
     area: Rect,

@@ -56,9 +56,28 @@ pub(crate) fn turn_on<'a, V>(
 }
 
 /// Turns to the next tile of which a rectangle has something, from a row and a column on, where no tiles are at hand:
-/// one search for each band. It is never inlined, so that a turn to the tile beside takes little.
-#[inline(never)]
+/// one search for each band. That of the first is inlined, so that a turn to the next tile of a column takes little.
+#[inline(always)]
 fn turn_below<'a, V>(pages: &'a Pages<V>, area: Rect, from: u32, side: u32) -> Option<Turn<'a, V>>
+    requires top { row_of area.first ≤ from }
+    requires sheet { from ≤ rows }
+    requires left { column_of area.first ≤ side }
+    requires right { side ≤ columns }
+    ensures some { IfSome result (λ t. LeadsOn pages.now area from side t) }
+    ensures none { IfNone result (HasNoneFrom pages.now area (place from side)) }
+{
+    if area.last().row() < from {
+        return None;
+    }
+    match turn_into(pages, area, from, side) {
+        Ok(turn) => Some(turn),
+        Err(next) => turn_further(pages, area, next, area.first().column()),
+    }
+}
+
+/// As `turn_below`, for any number of bands.
+#[inline(never)]
+fn turn_further<'a, V>(pages: &'a Pages<V>, area: Rect, from: u32, side: u32) -> Option<Turn<'a, V>>
     requires top { row_of area.first ≤ from }
     requires sheet { from ≤ rows }
     requires left { column_of area.first ≤ side }
@@ -84,6 +103,7 @@ fn turn_below<'a, V>(pages: &'a Pages<V>, area: Rect, from: u32, side: u32) -> O
 
 /// Turns to the next tile of which a rectangle has something, from a row and a column on, where the band of that row
 /// has one; else the row to go on with.
+#[inline(always)]
 fn turn_into<'a, V>(
     pages: &'a Pages<V>,
     area: Rect,

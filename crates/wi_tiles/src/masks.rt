@@ -21,6 +21,7 @@ pub(crate) fn cell_in(corner: Address, bit: u32) -> Address
 
 /// The bits of a group of columns that stand in a band's lines from one to another, from a column on, and in a
 /// rectangle's columns.
+#[inline(always)]
 pub(crate) fn bits_in(area: Rect, group: u32, column: u32, top: u32, bottom: u32) -> u64
     requires left { column / 4 ≤ group }
     requires right { group ≤ column_of area.last / 4 }

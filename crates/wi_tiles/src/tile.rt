@@ -77,7 +77,7 @@ impl<V> Tile<V> {
         requires { bit < 64 }
         ensures { result ≡ filled self.now bit }
     {
-        rank(self.bits, bit)
+        rank_of_first(self.bits, bit)
     }
 
     /// What the bit has before which so many have something.
@@ -221,10 +221,31 @@ fn place_of(bits: u64, count: usize, bit: u32) -> usize
     }
 }
 
+/// As `rank`, for a bit below which often none stands: then they aren't counted.
+#[inline(always)]
+fn rank_of_first(bits: u64, bit: u32) -> usize
+    requires { bit < 64 }
+    ensures { result ≡ rank bits bit }
+{
+    let ones = ones_below(bits, bit);
+    if ones == 0 {
+        return 0;
+    }
+    ones.count_ones() as usize
+}
+
+/// The ones below a bit.
+fn ones_below(bits: u64, bit: u32) -> u64
+    requires { bit < 64 }
+    ensures { count_ones result ≡ rank bits bit }
+{
+    bits & ((1 << bit) - 1)
+}
+
 /// How many ones stand below a bit.
 fn rank(bits: u64, bit: u32) -> usize
     requires { bit < 64 }
     ensures { result ≡ rank bits bit }
 {
-    (bits & ((1 << bit) - 1)).count_ones() as usize
+    ones_below(bits, bit).count_ones() as usize
 }
