@@ -43,6 +43,7 @@ impl Criterion {
 
     /// Whether a value meets it. Linear in the shorter of two texts.
     #[tactic(auto, using(crate::proofs::Meeting::met_by))]
+    #[inline(always)]
     pub(crate) fn meets(&self, value: &Value) -> bool
         ensures { result ≡ is_met self.now value.now }
     {

@@ -114,6 +114,7 @@ struct Summing<'a, L> {
 impl<'a, L: Lookup> TakesCells for Summing<'a, L> {
     ghost after = { λ s c v. record s { so_far = with_met_known (L.known_cell s.lookup.now) s.criterion.now s.area s.added s.so_far c v } };
 
+    #[inline(always)]
     fn take(&mut self, at: Address, value: &Value) -> ControlFlow<()> {
         if !self.criterion.meets(value) {
             return ControlFlow::Continue(());

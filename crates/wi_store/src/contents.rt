@@ -72,6 +72,7 @@ impl<'a> Iterator for Contents<'a> {
 
     /// A step among the bits of a tile of 16 rows by 4 columns for each content, and one search for each 16 rows; and
     /// where more than one of their tiles lie in the rectangle, one step more for each tile of each row.
+    #[inline(always)]
     fn next(&mut self) -> Option<(Address, &'a Content)> {
         match self.rooms.next() {
             Some((cell, room)) => match room.content() {

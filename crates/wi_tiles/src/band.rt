@@ -36,7 +36,6 @@ pub(crate) struct Turn<'a, V> {
 }
 
 /// Those of the tiles of a band.
-#[inline(always)]
 pub(crate) fn tiles_in<V>(parts: &[(u32, Tile<V>)], area: Rect) -> &[(u32, Tile<V>)]
     requires { Rises parts.now }
     ensures tiles { AreTiles area result.now }
@@ -66,7 +65,6 @@ fn is_only<V>(parts: &[(u32, Tile<V>)], low: u32, high: u32) -> bool
 
 /// Turns to the first tile, in a band's rows from a row and a column on, that has something of a rectangle. The tiles
 /// before a first place lie left of the column.
-#[inline(never)]
 pub(crate) fn turn_beside<'a, V>(
     tiles: &'a [(u32, Tile<V>)],
     area: Rect,
@@ -145,7 +143,6 @@ fn next_tile<V>(
 }
 
 /// Turns to the first of these tiles that has something of a rectangle, from a row and a column on.
-#[inline(always)]
 pub(crate) fn turn_among<'a, V>(
     tiles: &'a [(u32, Tile<V>)],
     area: Rect,
@@ -177,6 +174,29 @@ fn is_alone<V>(tiles: &[(u32, Tile<V>)], area: Rect, column: u32) -> bool
     ensures { IsTrue result → (length tiles.now ≡ 1) × (column ≡ column_of area.first) }
 {
     tiles.len() == 1 && column == area.first().column()
+}
+
+/// Turns to the only tile of a band, where it has one alone, and the column is the first of the rectangle.
+#[inline(always)]
+pub(crate) fn turn_to_only<'a, V>(
+    parts: &'a [(u32, Tile<V>)],
+    area: Rect,
+    row: u32,
+    column: u32,
+) -> Option<Turn<'a, V>>
+    requires rises { Rises parts.now }
+    requires top { row_of area.first ≤ row }
+    requires bottom { row ≤ row_of area.last }
+    ensures { IfSome result (λ t. (w : Pages V) → AreOfBand w area row parts.now
+        → LeadsOn w area row column t) }
+{
+    if column != area.first().column() {
+        return None;
+    }
+    if !is_only(parts, area.first().column() / 4, area.last().column() / 4) {
+        return None;
+    }
+    turn_alone(parts, area, row, column)
 }
 
 /// Turns to the only tile, for all of the rectangle's rows from one on at once.

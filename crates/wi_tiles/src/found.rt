@@ -7,7 +7,7 @@ ghost use Rattle.wi_tiles.specs.Inner.Next.{HasNoneFrom, HasNoneAbove, IsNext};
 ghost use Rattle.wi_tiles.specs.Inner.Turns.{LeadsOn};
 ghost use Rattle.wi_tiles.specs.Inner.Within.{GoesOn, AreBeside};
 
-use crate::band::{Tiles, Turn, tiles_in, turn_among, turn_beside};
+use crate::band::{Tiles, Turn, tiles_in, turn_among, turn_beside, turn_to_only};
 use crate::bare::past_bare;
 use crate::masks::cell_in;
 use crate::pages::{Pages, band_of, past_gap, start};
@@ -46,6 +46,51 @@ pub(crate) fn turn_on<'a, V>(
     ensures some { IfSome result (λ t. LeadsOn pages.now area row column t) }
     ensures none { IfNone result (HasNoneFrom pages.now area (place row column)) }
 {
+    match turn_down(pages, area, row, column, tiles) {
+        Some(turn) => Some(turn),
+        None => turn_apart(pages, area, row, column, tiles, first),
+    }
+}
+
+/// Turns to the tile that the band of a row has, where it has one alone and no tiles are at hand: so a turn to the next
+/// tile of a column takes no call. It may find none where there is one.
+#[inline(always)]
+fn turn_down<'a, V>(
+    pages: &'a Pages<V>,
+    area: Rect,
+    row: u32,
+    column: u32,
+    tiles: Option<Tiles<'a, V>>,
+) -> Option<Turn<'a, V>>
+    requires top { row_of area.first ≤ row }
+    requires left { column_of area.first ≤ column }
+    requires right { column ≤ columns }
+    ensures { IfSome result (λ t. LeadsOn pages.now area row column t) }
+{
+    if tiles.is_some() || area.last().row() < row {
+        return None;
+    }
+    match band_of(pages, row) {
+        Some(band) => turn_to_only(band.parts(), area, row, column),
+        None => None,
+    }
+}
+
+/// As `turn_on`, of any tiles.
+#[inline(never)]
+fn turn_apart<'a, V>(
+    pages: &'a Pages<V>,
+    area: Rect,
+    row: u32,
+    column: u32,
+    tiles: Option<Tiles<'a, V>>,
+    first: usize,
+) -> Option<Turn<'a, V>>
+    requires goes { GoesOn area row column tiles first }
+    requires band { AreBeside pages.now area row tiles }
+    ensures some { IfSome result (λ t. LeadsOn pages.now area row column t) }
+    ensures none { IfNone result (HasNoneFrom pages.now area (place row column)) }
+{
     match tiles {
         Some(tiles) => match turn_beside(tiles, area, row, column, first) {
             Some(turn) => Some(turn),
@@ -56,28 +101,9 @@ pub(crate) fn turn_on<'a, V>(
 }
 
 /// Turns to the next tile of which a rectangle has something, from a row and a column on, where no tiles are at hand:
-/// one search for each band. That of the first is inlined, so that a turn to the next tile of a column takes little.
-#[inline(always)]
-fn turn_below<'a, V>(pages: &'a Pages<V>, area: Rect, from: u32, side: u32) -> Option<Turn<'a, V>>
-    requires top { row_of area.first ≤ from }
-    requires sheet { from ≤ rows }
-    requires left { column_of area.first ≤ side }
-    requires right { side ≤ columns }
-    ensures some { IfSome result (λ t. LeadsOn pages.now area from side t) }
-    ensures none { IfNone result (HasNoneFrom pages.now area (place from side)) }
-{
-    if area.last().row() < from {
-        return None;
-    }
-    match turn_into(pages, area, from, side) {
-        Ok(turn) => Some(turn),
-        Err(next) => turn_further(pages, area, next, area.first().column()),
-    }
-}
-
-/// As `turn_below`, for any number of bands.
+/// one search for each band. It is never inlined, so that a turn to the tile beside takes little.
 #[inline(never)]
-fn turn_further<'a, V>(pages: &'a Pages<V>, area: Rect, from: u32, side: u32) -> Option<Turn<'a, V>>
+fn turn_below<'a, V>(pages: &'a Pages<V>, area: Rect, from: u32, side: u32) -> Option<Turn<'a, V>>
     requires top { row_of area.first ≤ from }
     requires sheet { from ≤ rows }
     requires left { column_of area.first ≤ side }
@@ -103,7 +129,6 @@ fn turn_further<'a, V>(pages: &'a Pages<V>, area: Rect, from: u32, side: u32) ->
 
 /// Turns to the next tile of which a rectangle has something, from a row and a column on, where the band of that row
 /// has one; else the row to go on with.
-#[inline(always)]
 fn turn_into<'a, V>(
     pages: &'a Pages<V>,
     area: Rect,

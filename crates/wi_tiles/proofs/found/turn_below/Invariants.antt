@@ -1,6 +1,6 @@
 use Rattle.wi_tiles.proofs.Words.{◌-◌, ◌+◌, place, row_of}
 use Rattle.wi_tiles.proofs.TurnLemmas.{Reached}
-use Rattle.wi_tiles.proofs.found.turn_further.Given as goal
+use Rattle.wi_tiles.proofs.found.turn_below.Given as goal
 
 abbrev pub invariant-loop-row : goal.invariant-loop-row
 invariant-loop-row g l = Reached l.pages l.area (place l.fn.from l.fn.side) l.row l.column

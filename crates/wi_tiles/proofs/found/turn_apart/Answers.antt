@@ -1,7 +1,7 @@
 use Rattle.wi_tiles.proofs.Words.{rules, arith, ◌≡◌, ◌+◌, ◌*◌, ◌/◌, IfSome_then, place, column_of}
 use Rattle.wi_tiles.proofs.TurnLemmas.{goes_beside, band_beside, turn_earlier, none_earlier, before_row}
 use Rattle.wi_tiles.proofs.WalkLemmas.{none_then}
-use Rattle.wi_tiles.proofs.found.turn_on.Goals as goal
+use Rattle.wi_tiles.proofs.found.turn_apart.Goals as goal
 
 pub turn_beside-requires-clause-tiles : goal.turn_beside-requires-clause-tiles
 turn_beside-requires-clause-tiles g c = (goes_beside c.args.area c.args.row c.args.column c.args.tiles c.in-Some.tiles c.args.first c.in-Some.is c.requires.goes).1
