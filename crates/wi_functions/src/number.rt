@@ -34,6 +34,36 @@ pub(crate) fn take_number(placed: &Placed, values: &[Value], number: &mut Fracti
     }
 }
 
+/// The sum or the difference of two whole numbers, if a placed expression is that of constants or places.
+#[inline(always)]
+pub(crate) fn sum_at_hand(placed: &Placed, values: &[Value]) -> Option<Fraction>
+    ensures { IfSome result (λ x. placed_value placed.now values.now ≡ Values.Number x) }
+{
+    match placed {
+        Placed::Binary(operator, operands) => {
+            sum_of_lent(*operator, &operands.0, &operands.1, values)
+        }
+        _ => None,
+    }
+}
+
+/// The sum or the difference of two whole numbers, if the expressions are constants or places that have them.
+#[inline(always)]
+fn sum_of_lent(
+    operator: Operator,
+    left: &Placed,
+    right: &Placed,
+    values: &[Value],
+) -> Option<Fraction>
+    ensures { IfSome result (λ x. operators.operate operator
+        (placed_value left.now values.now) (placed_value right.now values.now)
+        ≡ Values.Number x) }
+{
+    let x = lent_number(left, values)?;
+    let y = lent_number(right, values)?;
+    whole_sum(operator, x, y)
+}
+
 /// As `take_number`, in a function of its own.
 #[cycle(numbers)]
 #[inline(never)]
@@ -131,8 +161,13 @@ fn take_right_parts(
     if !take_number(right, values, number) {
         return false;
     }
-    let y = *number;
-    take_operated(operator, x, &y, number)
+    match whole_sum(operator, x, number) {
+        Some(sum) => {
+            *number = sum;
+            true
+        }
+        None => take_over(operator, x, number),
+    }
 }
 
 /// Takes the number with the other sign.
@@ -260,20 +295,62 @@ fn holds(operator: Operator, x: &Fraction, y: &Fraction) -> Option<bool>
     }
 }
 
-/// Takes the number of an operator between two numbers, if it gives one.
+/// Takes the number of an operator between two numbers, if it gives one. That of two whole numbers takes no call, if it
+/// adds them or subtracts one.
 #[inline(always)]
 fn take_operated(operator: Operator, x: &Fraction, y: &Fraction, number: &mut Fraction) -> bool
     ensures { OnTrue result (operators.operate operator
         (Values.Number x.now) (Values.Number y.now) ≡ Values.Number number.new) }
 {
-    match operator {
-        Operator::Add => take_outcome(add(*x, *y), number),
-        Operator::Subtract => take_outcome(subtract(*x, *y), number),
-        _ => take_product(operator, x, y, number),
+    match whole_sum(operator, x, y) {
+        Some(sum) => {
+            *number = sum;
+            true
+        }
+        None => take_product(operator, x, y, number),
     }
 }
 
-/// Takes the product or the quotient of two numbers, if the operator gives it.
+/// Takes the number of an operator between a number and the one that is there already, if it gives one.
+#[inline(never)]
+fn take_over(operator: Operator, x: &Fraction, number: &mut Fraction) -> bool
+    ensures { OnTrue result (operators.operate operator
+        (Values.Number x.now) (Values.Number number.old) ≡ Values.Number number.new) }
+{
+    let y = *number;
+    take_product(operator, x, &y, number)
+}
+
+/// The sum or the difference of two whole numbers, if the operator gives it and it fits.
+#[inline(always)]
+fn whole_sum(operator: Operator, x: &Fraction, y: &Fraction) -> Option<Fraction>
+    ensures { IfSome result (λ z. operators.operate operator
+        (Values.Number x.now) (Values.Number y.now) ≡ Values.Number z) }
+{
+    match operator {
+        Operator::Add => {
+            if !are_whole(x, y) {
+                return None;
+            }
+            given_number(add(*x, *y))
+        }
+        Operator::Subtract => {
+            if !are_whole(x, y) {
+                return None;
+            }
+            given_number(subtract(*x, *y))
+        }
+        _ => None,
+    }
+}
+
+/// Whether both numbers are whole.
+#[inline(always)]
+fn are_whole(x: &Fraction, y: &Fraction) -> bool {
+    x.denominator() == 1 && y.denominator() == 1
+}
+
+/// As `take_operated`, by a call for each operator but the product.
 #[inline(never)]
 fn take_product(operator: Operator, x: &Fraction, y: &Fraction, number: &mut Fraction) -> bool
     ensures { OnTrue result (operators.operate operator
@@ -281,8 +358,32 @@ fn take_product(operator: Operator, x: &Fraction, y: &Fraction, number: &mut Fra
 {
     match operator {
         Operator::Multiply => take_outcome(multiply(*x, *y), number),
+        _ => take_rest(operator, x, y, number),
+    }
+}
+
+/// As `take_operated`, where the operator doesn't multiply.
+#[inline(never)]
+fn take_rest(operator: Operator, x: &Fraction, y: &Fraction, number: &mut Fraction) -> bool
+    ensures { OnTrue result (operators.operate operator
+        (Values.Number x.now) (Values.Number y.now) ≡ Values.Number number.new) }
+{
+    match operator {
+        Operator::Add => take_outcome(add(*x, *y), number),
+        Operator::Subtract => take_outcome(subtract(*x, *y), number),
         Operator::Divide => take_outcome(divide(*x, *y), number),
         _ => false,
+    }
+}
+
+/// The number of what was reckoned, if it has one.
+#[inline(always)]
+fn given_number(outcome: Result<Fraction, ErrorKind>) -> Option<Fraction>
+    ensures { IfSome result (λ x. number_value outcome ≡ Values.Number x) }
+{
+    match outcome {
+        Ok(x) => Some(x),
+        Err(_) => None,
     }
 }
 

@@ -15,7 +15,7 @@ ghost use Rattle.wi_functions.specs.Placed.{placed_value, placed_values, value_a
 use crate::choice::{Choice, choose};
 use crate::evaluation::zero_for_empty;
 use crate::meter::Meter;
-use crate::number::take_number;
+use crate::number::{sum_at_hand, take_number};
 use crate::operators::{hundredth, operate, with_sign};
 use std::alloc::{AllocError, Global};
 use wi_parser::{Operator, Sign};
@@ -97,12 +97,36 @@ pub fn push_evaluated(
         ≡ record meter.old { evaluations = one_more meter.old.evaluations }) }
     ensures err { OnErr result (meter.new ≡ meter.old) }
 {
+    if let Some(sum) = sum_at_hand(placed, values) {
+        meter.count_evaluation();
+        values.push_reserved(Value::Number(sum));
+        return Ok(());
+    }
     let mut number = zero();
     if take_number(placed, values, &mut number) {
         meter.count_evaluation();
         values.push_reserved(Value::Number(number));
         return Ok(());
     }
+    push_any(alloc, placed, values, meter)
+}
+
+/// As `push_evaluated`, with a value for each part.
+#[inline(never)]
+fn push_any(
+    alloc: Global,
+    placed: &Placed,
+    values: &mut Vec<Value>,
+    meter: &mut Meter,
+) -> Result<(), AllocError>
+    requires { vec_len values.old < vec_capacity values.old }
+    ensures value { OnOk result (values.new.items ≡ values.old.items
+        ++ formulas.zero_for_empty (placed_value placed.now values.old.items) ∷ []) }
+    ensures capacity { vec_capacity values.new ≡ vec_capacity values.old }
+    ensures counted { OnOk result (meter.new
+        ≡ record meter.old { evaluations = one_more meter.old.evaluations }) }
+    ensures err { OnErr result (meter.new ≡ meter.old) }
+{
     let value = evaluate_any(alloc, placed, values, meter)?;
     values.push_reserved(value);
     Ok(())
