@@ -135,14 +135,16 @@ impl<M: Memo + Drop> Question<M> {
         ensures same { M.state self.new.memo ≡ M.state self.old.memo }
     {
         let alloc = self.pool.allocator();
-        let Some(mut found) = input_values(alloc, world, plan)? else {
+        let mut found = self.pool.take_values();
+        if !push_inputs(alloc, world, plan, &mut found)? {
             return Ok(None);
-        };
+        }
         found.reserve(placed.cells.len())?;
         for cell in &placed.cells {
             self.push_cell(store, world, cell, &mut found)?;
         }
         let value = placed_value(alloc, &placed.root, &found, &mut self.meter)?;
+        self.pool.put_values(found);
         Ok(Some(value))
     }
 
@@ -255,6 +257,7 @@ impl<M: Memo + Drop> Question<M> {
     }
 
     /// Whether the value of a plan's cell is there, if it is to be given.
+    #[inline(always)]
     fn is_there(
         &mut self,
         store: &Store,
@@ -271,13 +274,21 @@ impl<M: Memo + Drop> Question<M> {
         if !planned.is_given {
             return Ok(true);
         }
-        match value_now(
-            self.pool.allocator(),
-            store,
-            world,
-            planned.at,
-            &mut self.memo,
-        )? {
+        self.needs_none(store, world, planned.at)
+    }
+
+    /// Whether the value of a cell is there.
+    #[inline(never)]
+    fn needs_none(&mut self, store: &Store, world: &World, at: Address) -> Result<bool, AllocError>
+        requires memo { IsMemoOf store.now.sheet (M.state self.old.memo) }
+        requires read { MayBeRead store.now.sheet (M.state self.old.memo) at }
+        ensures given { IfOk result (λ b. OnTrue b
+            (NeedsNoEvaluation store.now.sheet (M.state self.old.memo) world.now at)) }
+        ensures same { M.state self.new.memo ≡ M.state self.old.memo }
+        ensures counts { self.new.meter ≡ self.old.meter }
+    {
+        let alloc = self.pool.allocator();
+        match value_now(alloc, store, world, at, &mut self.memo)? {
             Step::Ready(_) => Ok(true),
             Step::First(_) => Ok(false),
         }
@@ -315,20 +326,27 @@ impl<M: Memo + Drop> Question<M> {
     }
 }
 
-/// The values that are put into a plan's inputs. Room is taken for those of its cells too. None where one isn't
-/// replaced.
-fn input_values(alloc: Global, world: &World, plan: &Plan) -> Result<Option<Vec<Value>>, AllocError>
-    ensures { IfOk result (λ o. IfSome o (λ vs. (s : Sheet)
-        → map (values.cell_value (put_all s world.now)) plan.now.inputs.items ≡ vs.items)) }
+/// Appends the values that are put into a plan's inputs to an empty list. Room is taken for those of its cells too.
+/// False where one isn't replaced.
+fn push_inputs(
+    alloc: Global,
+    world: &World,
+    plan: &Plan,
+    found: &mut Vec<Value>,
+) -> Result<bool, AllocError>
+    requires { found.old.items ≡ [] }
+    ensures { IfOk result (λ there. OnTrue there ((s : Sheet)
+        → map (values.cell_value (put_all s world.now)) plan.now.inputs.items
+        ≡ found.new.items)) }
 {
-    let mut values = Vec::with_capacity(alloc, plan.inputs.len().saturating_add(plan.cells.len()))?;
+    found.reserve(plan.inputs.len().saturating_add(plan.cells.len()))?;
     for input in &plan.inputs {
         let Some(value) = replaced(world, *input) else {
-            return Ok(None);
+            return Ok(false);
         };
-        values.push(value.copy(alloc)?)?;
+        found.push(value.copy(alloc)?)?;
     }
-    Ok(Some(values))
+    Ok(true)
 }
 
 /// The value of a placed formula over values. It is counted; where memory runs out nothing is.

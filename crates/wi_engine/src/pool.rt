@@ -6,6 +6,8 @@ ghost use Rattle.wi_engine.specs.Inner.Lists.{listed_value};
 use crate::lists::Lists;
 use crate::scan::Scan;
 use std::alloc::{AllocError, Global};
+use std::mem;
+use wi_values::Value;
 
 /// How many lists of values are kept, and of scans. Formulas that are evaluated one after another seldom stand deeper
 /// in one another.
@@ -14,11 +16,15 @@ const MAX_KEPT: usize = 64;
 /// How many values or scans an array may have that is kept. A pool takes less than a megabyte then.
 const MAX_FILLED: usize = 64;
 
+/// How many values the list may have that is kept for a plan.
+const MAX_VALUES: usize = 4096;
+
 /// Arrays whose memory is used again, by later formulas of a question and by later questions.
 #[derive(Drop)]
 pub struct Pool {
     lists: Vec<Box<Lists>>,
     scans: Vec<Vec<Scan>>,
+    values: Vec<Value>,
     alloc: Global,
 }
 
@@ -28,6 +34,7 @@ impl Pool {
         Pool {
             lists: Vec::new(alloc),
             scans: Vec::new(alloc),
+            values: Vec::new(alloc),
             alloc,
         }
     }
@@ -81,6 +88,23 @@ impl Pool {
         if self.scans.len() < MAX_KEPT && scans.len() <= MAX_FILLED {
             scans.clear();
             let _ = self.scans.push(scans);
+        }
+    }
+
+    /// The list of values that was put in last, or a new one, without values. Takes no memory.
+    pub(crate) fn take_values(&mut self) -> Vec<Value>
+        ensures { result.items ≡ [] }
+    {
+        let mut values = mem::replace(&mut self.values, Vec::new(self.alloc));
+        values.clear();
+        values
+    }
+
+    /// Puts a list of values in, without them. They go where they are many.
+    pub(crate) fn put_values(&mut self, mut values: Vec<Value>) {
+        if values.len() <= MAX_VALUES {
+            values.clear();
+            self.values = values;
         }
     }
 }

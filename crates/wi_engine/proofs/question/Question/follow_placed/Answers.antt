@@ -1,4 +1,4 @@
-use Rattle.wi_engine.proofs.Words.{◌≡◌, ◌∙◌, ◌++◌, ℕ, true, List, map, take, ap, refl, subst, sym, arith, common_steps, append-nil, is_one_of, put_all, cell_value, MemoState, NeedsNoEvaluation}
+use Rattle.wi_engine.proofs.Words.{rules, ◌≡◌, ◌∙◌, ◌++◌, ℕ, true, List, map, take, ap, refl, subst, sym, arith, common_steps, append-nil, is_one_of, put_all, cell_value, MemoState, NeedsNoEvaluation, Sheet}
 use Rattle.wi_engine.specs.declared.placing.PlacedCell.{PlacedCell}
 use Rattle.wi_engine.specs.declared.plan.Planned.{Planned}
 use Rattle.wi_engine.specs.Inner.Placing.{IsPlacedFormula, cells_placed}
@@ -11,12 +11,14 @@ use Rattle.wi_engine.proofs.question.Question.follow_placed.Goals as goal
 -- ---- before a cell
 
 pub loop-cell-init : goal.loop-cell-init
-loop-cell-init g c = record {
-  same = refl;
-  counted = counted_none c.args.self.now.meter;
-  values = ap (map (cell_value (put_all c.args.store.now.sheet c.args.world.now))) (append-nil c.args.plan.now.inputs.items) ∙ (rw c.in-Some.is at c.in_ok-found.ensures) c.args.store.now.sheet ∙ sym c.reserve.ensures.items;
-  room = grind (arith, common_steps);
-}
+loop-cell-init g c =
+    let put : (s : Sheet) → map (cell_value (put_all s c.args.world.now)) c.args.plan.now.inputs.items ≡ c.push_inputs.new.found.items = search rules in
+    record {
+      same = refl;
+      counted = counted_none c.args.self.now.meter;
+      values = ap (map (cell_value (put_all c.args.store.now.sheet c.args.world.now))) (append-nil c.args.plan.now.inputs.items) ∙ put c.args.store.now.sheet ∙ sym c.reserve.ensures.items;
+      room = grind (arith, common_steps);
+    }
 
 pub push_cell-requires-clause-cell : goal.push_cell-requires-clause-cell
 push_cell-requires-clause-cell g c =
