@@ -34,22 +34,23 @@ pub(crate) fn take_number(placed: &Placed, values: &[Value], number: &mut Fracti
     }
 }
 
-/// The sum or the difference of two whole numbers, if a placed expression is that of constants or places.
+/// The number of a placed expression that is an operator between constants or places, if it gives one: without a call
+/// where it is the sum or the difference of two whole numbers.
 #[inline(always)]
-pub(crate) fn sum_at_hand(placed: &Placed, values: &[Value]) -> Option<Fraction>
+pub(crate) fn number_at_hand(placed: &Placed, values: &[Value]) -> Option<Fraction>
     ensures { IfSome result (λ x. placed_value placed.now values.now ≡ Values.Number x) }
 {
     match placed {
         Placed::Binary(operator, operands) => {
-            sum_of_lent(*operator, &operands.0, &operands.1, values)
+            operated_at_hand(*operator, &operands.0, &operands.1, values)
         }
         _ => None,
     }
 }
 
-/// The sum or the difference of two whole numbers, if the expressions are constants or places that have them.
+/// The number of an operator between two placed expressions, if they are constants or places and it gives one.
 #[inline(always)]
-fn sum_of_lent(
+fn operated_at_hand(
     operator: Operator,
     left: &Placed,
     right: &Placed,
@@ -61,7 +62,10 @@ fn sum_of_lent(
 {
     let x = lent_number(left, values)?;
     let y = lent_number(right, values)?;
-    whole_sum(operator, x, y)
+    match whole_sum(operator, x, y) {
+        Some(sum) => Some(sum),
+        None => called_number(operator, x, y),
+    }
 }
 
 /// As `take_number`, in a function of its own.
@@ -307,7 +311,7 @@ fn take_operated(operator: Operator, x: &Fraction, y: &Fraction, number: &mut Fr
             *number = sum;
             true
         }
-        None => take_product(operator, x, y, number),
+        None => take_called(operator, x, y, number),
     }
 }
 
@@ -318,7 +322,7 @@ fn take_over(operator: Operator, x: &Fraction, number: &mut Fraction) -> bool
         (Values.Number x.now) (Values.Number number.old) ≡ Values.Number number.new) }
 {
     let y = *number;
-    take_product(operator, x, &y, number)
+    take_called(operator, x, &y, number)
 }
 
 /// The sum or the difference of two whole numbers, if the operator gives it and it fits.
@@ -350,21 +354,49 @@ fn are_whole(x: &Fraction, y: &Fraction) -> bool {
     x.denominator() == 1 && y.denominator() == 1
 }
 
-/// As `take_operated`, by a call for each operator but the product.
-#[inline(never)]
-fn take_product(operator: Operator, x: &Fraction, y: &Fraction, number: &mut Fraction) -> bool
+/// As `take_operated`, by a call.
+#[inline(always)]
+fn take_called(operator: Operator, x: &Fraction, y: &Fraction, number: &mut Fraction) -> bool
     ensures { OnTrue result (operators.operate operator
         (Values.Number x.now) (Values.Number y.now) ≡ Values.Number number.new) }
 {
     match operator {
-        Operator::Multiply => take_outcome(multiply(*x, *y), number),
-        _ => take_rest(operator, x, y, number),
+        Operator::Multiply => take_product(x, y, number),
+        _ => take_sum_or_quotient(operator, x, y, number),
     }
+}
+
+/// The number of an operator between two numbers, if it gives one. It takes a call.
+#[inline(always)]
+fn called_number(operator: Operator, x: &Fraction, y: &Fraction) -> Option<Fraction>
+    ensures { IfSome result (λ z. operators.operate operator
+        (Values.Number x.now) (Values.Number y.now) ≡ Values.Number z) }
+{
+    let mut number = zero();
+    if take_called(operator, x, y, &mut number) {
+        Some(number)
+    } else {
+        None
+    }
+}
+
+/// Takes the product of two numbers, if it fits.
+#[inline(never)]
+fn take_product(x: &Fraction, y: &Fraction, number: &mut Fraction) -> bool
+    ensures { OnTrue result (operators.operate Operator.Multiply
+        (Values.Number x.now) (Values.Number y.now) ≡ Values.Number number.new) }
+{
+    take_outcome(multiply(*x, *y), number)
 }
 
 /// As `take_operated`, where the operator doesn't multiply.
 #[inline(never)]
-fn take_rest(operator: Operator, x: &Fraction, y: &Fraction, number: &mut Fraction) -> bool
+fn take_sum_or_quotient(
+    operator: Operator,
+    x: &Fraction,
+    y: &Fraction,
+    number: &mut Fraction,
+) -> bool
     ensures { OnTrue result (operators.operate operator
         (Values.Number x.now) (Values.Number y.now) ≡ Values.Number number.new) }
 {

@@ -15,7 +15,7 @@ ghost use Rattle.wi_functions.specs.Placed.{placed_value, placed_values, value_a
 use crate::choice::{Choice, choose};
 use crate::evaluation::zero_for_empty;
 use crate::meter::Meter;
-use crate::number::{sum_at_hand, take_number};
+use crate::number::{number_at_hand, take_number};
 use crate::operators::{hundredth, operate, with_sign};
 use std::alloc::{AllocError, Global};
 use wi_parser::{Operator, Sign};
@@ -97,9 +97,9 @@ pub fn push_evaluated(
         ≡ record meter.old { evaluations = one_more meter.old.evaluations }) }
     ensures err { OnErr result (meter.new ≡ meter.old) }
 {
-    if let Some(sum) = sum_at_hand(placed, values) {
+    if let Some(at_hand) = number_at_hand(placed, values) {
         meter.count_evaluation();
-        values.push_reserved(Value::Number(sum));
+        values.push_reserved(Value::Number(at_hand));
         return Ok(());
     }
     let mut number = zero();
