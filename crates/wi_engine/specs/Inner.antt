@@ -17,5 +17,6 @@ pub mod Spends
 pub mod StackLists
 pub mod Stacked
 pub mod Steps
+pub mod Sure
 pub mod Touched
 pub mod Walk

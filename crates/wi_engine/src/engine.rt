@@ -20,7 +20,7 @@ use crate::lacking::is_lacking;
 use crate::lists::FoundWhatIf;
 use crate::memo::Memo;
 use crate::pool::Pool;
-use crate::together::together;
+use crate::together::{Batch, together};
 use std::alloc::{AllocError, Global};
 use std::mem;
 use wi_cache::Key;
@@ -197,9 +197,11 @@ fn wait_for(pool: &mut Pool, store: &Store, frame: &mut Frame, want: Want) -> Re
 {
     match want {
         Want::Cell(at) => {
-            let batch = together(pool.allocator(), store, frame, at)?;
-            frame.keep_scan(batch.scan, pool)?;
-            frame.waiting = Waiting::Cells(at, batch.cells);
+            let Batch { cells, scan } = together(pool.allocator(), store, frame, at)?;
+            if let Some(scan) = scan {
+                frame.keep_scan(scan, pool)?;
+            }
+            frame.waiting = Waiting::Cells(at, cells);
             Ok(())
         }
         Want::WhatIf(at, pairs) => {

@@ -38,6 +38,14 @@ impl Findings {
         }
     }
 
+    /// Whether values of several cells were found.
+    pub(crate) fn has_several(&self) -> bool {
+        match &self.lists {
+            Some(lists) => lists.has_several(),
+            None => false,
+        }
+    }
+
     /// The value found of a cell. The work grows with the logarithm of the count of cells found.
     #[inline(always)]
     pub(crate) fn cell(&self, at: Address) -> Option<&Value>

@@ -4,6 +4,7 @@
 mod ahead;
 mod asked;
 mod attempt;
+mod beside;
 mod cone;
 mod content_ref;
 mod engine;

@@ -15,6 +15,9 @@ use wi_values::{Address, Value};
 /// How many values of cells stand in a list that is gone through.
 const MAX_LISTED: usize = 8;
 
+/// How many values of cells are several.
+const SEVERAL: usize = 4;
+
 /// A what-if's value.
 #[derive(Drop)]
 pub struct FoundWhatIf {
@@ -80,6 +83,11 @@ impl Lists {
     /// Whether no array that grows with the cells found has more than so many values.
     pub(crate) fn is_within(&self, most: usize) -> bool {
         self.rising.count() <= most && self.what_ifs.len() <= most
+    }
+
+    /// Whether there are values of several cells.
+    pub(crate) fn has_several(&self) -> bool {
+        self.first.len() >= SEVERAL
     }
 
     /// The value found of a cell. The work grows with the logarithm of the count of cells found.

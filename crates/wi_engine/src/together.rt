@@ -4,14 +4,16 @@
 //! thousand times if one of them were found each time; and of a table from which INDEX reads one cell the others aren't
 //! wanted. So how many are found goes by what was wanted of the same rectangle before. A cell is found alone, and where
 //! the next one that is wanted follows, in its row, its column or the whole rectangle, twice as many are found each
-//! time, if there are so many.
+//! time, if there are so many. A cell that is read alone is found with those that each evaluation asks for.
 
-ghost use Rattle.std.specs.Prelude.{◌≡◌, ℕ, true, nat_lt, if◌then◌else◌, IfOk, IfSome};
+ghost use Rattle.std.specs.Prelude.{◌≡◌, ℕ, true, nat_lt, if◌then◌else◌, IfOk, IfSome, IfNone};
 ghost use Rattle.wi_values.specs.Address.{is_one_of, is_within_one, size_of};
 ghost use Rattle.wi_parser.specs.Sheet.{content_of, has_formula};
 ghost use Rattle.wi_sheet.specs.Demand.{reads_here};
 ghost use Rattle.wi_engine.specs.Inner.Scans.{AreTogether, IsScanTo, IsSmallestWith, is_next};
+ghost use Rattle.wi_engine.specs.Inner.Sure.{AreSureWith};
 
+use crate::beside::with_sure_cells;
 use crate::frame::Frame;
 use crate::lacking::{next_lacking_in, with_next_lacking};
 use crate::scan::{Scan, Way, part};
@@ -19,16 +21,18 @@ use std::alloc::{AllocError, Global};
 use wi_store::Store;
 use wi_values::{Address, Rect};
 
-/// Cells that are to be found together, and the scan that they take.
+/// Cells that are to be found together.
 #[derive(Drop)]
 pub struct Batch {
     pub cells: Vec<Address>,
-    pub scan: Scan,
+    /// The scan that they take. None where the first is a rectangle of its own.
+    pub scan: Option<Scan>,
 }
 
-/// The cells that are to be found together with one that a frame's formula lacks, that one first. They lie in the
-/// smallest of the formula's rectangles that hold it. The work grows with the count of the formula's rectangles, and as
-/// that of `next_lacking_in` and of `with_next_lacking`.
+/// The cells that are to be found together with one that a frame's formula lacks, that one among them. They lie in the
+/// smallest of the formula's rectangles that hold it, or are those of `with_sure_cells` where that is the cell alone.
+/// The work grows with the count of the formula's rectangles, and as that of `next_lacking_in` and of
+/// `with_next_lacking`, or of `with_sure_cells`.
 pub(crate) fn together(
     alloc: Global,
     store: &Store,
@@ -41,17 +45,26 @@ pub(crate) fn together(
         → (reads_here frame.now.formula.now d ≡ true)
         × (has_formula (content_of store.now.sheet d) ≡ true)) }
     ensures wanted { IfOk result (λ b. is_one_of b.cells.items at ≡ true) }
-    ensures following { IfOk result (λ b.
-        AreTogether store.now.sheet frame.now frame.now.formula.now at b.scan b.cells.items) }
+    ensures following { IfOk result (λ b. IfSome b.scan (λ c.
+        AreTogether store.now.sheet frame.now frame.now.formula.now at c b.cells.items)) }
+    ensures sure { IfOk result (λ b. IfNone b.scan (
+        AreSureWith store.now.sheet frame.now frame.now.formula.now at b.cells.items)) }
 {
     let rectangle = smallest_with(frame.formula.rectangles(), at);
+    if rectangle.size() <= 1 {
+        let sure = with_sure_cells(alloc, store, frame, at)?;
+        return Ok(Batch {
+            cells: sure,
+            scan: None,
+        });
+    }
     let scan = scan_to(store, frame, rectangle, at);
     let area = part(rectangle, scan.way, at);
     let cells = with_next_lacking(alloc, store, frame, area, at, scan.count)?;
     let last = *cells.last().unwrap_or(&at);
     Ok(Batch {
         cells,
-        scan: Scan { last, ..scan },
+        scan: Some(Scan { last, ..scan }),
     })
 }
 

@@ -10,25 +10,14 @@ together-requires-clause-formula c =
     let lacking = rw c.in-Cell.is at c.requires.lacking in
     put_formula c.args.store.now.sheet c.args.frame.now.key.world c.in-Cell.at lacking.0
 
-pub returns-in_ok-keep_scan-in-Cell-clause-awaits : goal.returns-in_ok-keep_scan-in-Cell-clause-awaits
-returns-in_ok-keep_scan-in-Cell-clause-awaits c =
-    let kept = c.keep_scan.ensures in
-    record {
-      key = kept.key;
-      formula = kept.formula;
-      found = kept.found;
-      awaits = λ d. awaits_cells c.args.store.now.sheet c.args.frame.now.key c.args.frame.now.found c.args.want c.args.frame.now.formula.now c.in-Cell.at c.in_ok-batch-in-Cell.batch.cells
-          c.requires.asks c.requires.lacking c.in-Cell.is c.requires.formula c.in_ok-batch-in-Cell.ensures.read;
-    }
-
 pub returns-in-WhatIf-clause-awaits : goal.returns-in-WhatIf-clause-awaits
 returns-in-WhatIf-clause-awaits c =
     let lacking = rw c.in-WhatIf.is at c.requires.lacking in
     let asks = rw c.in-WhatIf.is at c.requires.asks in
     record { key = refl; formula = refl; found = refl; awaits = λ d. (lacking, asks) }
 
-pub returns-in_err-batch-in-Cell-clause-awaits : goal.returns-in_err-batch-in-Cell-clause-awaits
-returns-in_err-batch-in-Cell-clause-awaits c = waits_err c.from_residual.result c.from_residual.ensures.0 refl refl refl
+pub returns-in_err-cells-in-Cell-clause-awaits : goal.returns-in_err-cells-in-Cell-clause-awaits
+returns-in_err-cells-in-Cell-clause-awaits c = waits_err c.from_residual.result c.from_residual.ensures.0 refl refl refl
 
 pub returns-in_err-keep_scan-in-Cell-clause-awaits : goal.returns-in_err-keep_scan-in-Cell-clause-awaits
 returns-in_err-keep_scan-in-Cell-clause-awaits c =

@@ -1,9 +1,14 @@
 use Rattle.wi_engine.proofs.Words.{refl, in_one_of}
+use Rattle.wi_engine.proofs.beside.SureCells.{sure_are_read}
 use Rattle.wi_engine.proofs.together.Scans.{among_them, they_are_read, of_rectangle}
 use Rattle.wi_engine.proofs.together.together.Goals as goal
 
 pub smallest_with-rectangle-requires : goal.smallest_with-rectangle-requires
 smallest_with-rectangle-requires c = in_one_of c.args.frame.now.formula.now c.rectangles.result.now c.args.at c.rectangles.ensures c.requires.read
+
+pub returns-then-size-le1-clause-read : goal.returns-then-size-le1-clause-read
+returns-then-size-le1-clause-read c =
+    sure_are_read c.args.store.now.sheet c.args.frame.now c.args.frame.now.formula.now c.args.at c.in_ok-sure.sure.items c.in_ok-sure.ensures c.requires.read c.requires.formula
 
 pub returns-clause-read : goal.returns-clause-read
 returns-clause-read c =
