@@ -18,9 +18,9 @@ use wi_value_functions::{Function, function_for};
 use wi_values::{Address, Text};
 
 /// The cells that a frame lacks and that each evaluation of its formula asks for, from the left, and behind them a
-/// cell. It is that cell alone where few were found before, since a formula that reads few is soon begun anew. Else
-/// it takes a walk through the formula's tree, in which each cell costs a look at what stands there and, for a formula,
-/// one at what the frame found.
+/// cell. A walk through the formula's tree finds them, in which each cell costs a look at what stands there and, for a
+/// formula, one at what the frame found. It is made where 4 cells were found before, or 8, or 16, and so on: a formula
+/// that reads few is soon begun anew, and one walk after another finds nothing new. Else it is that cell alone.
 pub(crate) fn with_sure_cells(
     alloc: Global,
     store: &Store,
@@ -31,7 +31,7 @@ pub(crate) fn with_sure_cells(
         AreSure store.now.sheet frame.now frame.now.formula.now at v.items) }
 {
     let mut cells = Vec::new(alloc);
-    if frame.found.has_several() {
+    if frame.found.has_doubled() {
         push_sure(store, frame, frame.formula.tree(), &mut cells)?;
     }
     cells.push(at)?;

@@ -38,10 +38,10 @@ impl Findings {
         }
     }
 
-    /// Whether values of several cells were found.
-    pub(crate) fn has_several(&self) -> bool {
+    /// Whether values of 4 cells were found, or of 8, of 16, and so on.
+    pub(crate) fn has_doubled(&self) -> bool {
         match &self.lists {
-            Some(lists) => lists.has_several(),
+            Some(lists) => lists.has_doubled(),
             None => false,
         }
     }

@@ -15,7 +15,7 @@ use wi_values::{Address, Value};
 /// How many values of cells stand in a list that is gone through.
 const MAX_LISTED: usize = 8;
 
-/// How many values of cells are several.
+/// The first count of values of cells from which on they are looked at whenever there are twice as many.
 const SEVERAL: usize = 4;
 
 /// A what-if's value.
@@ -85,9 +85,11 @@ impl Lists {
         self.rising.count() <= most && self.what_ifs.len() <= most
     }
 
-    /// Whether there are values of several cells.
-    pub(crate) fn has_several(&self) -> bool {
-        self.first.len() >= SEVERAL
+    /// Whether there are values of 4 cells, or of 8, of 16, and so on.
+    pub(crate) fn has_doubled(&self) -> bool {
+        let later = self.rising.count().saturating_add(self.others.len());
+        let count = self.first.len().saturating_add(later);
+        count >= SEVERAL && count.is_power_of_two()
     }
 
     /// The value found of a cell. The work grows with the logarithm of the count of cells found.
