@@ -1,11 +1,34 @@
 -- What a line asks for, by its name and its words.
-use Rattle.wi_cli.proofs.Vocabulary.{◌≡◌, ℕ, suc, ◌+◌, ◌<◌, ◌≤◌, Bool, true, false, ◌||◌, ◌&&◌, not, cond, eqb, List, [], ◌∷◌, length, take, refl, sym, ap, ◌∙◌, subst, ⊎_elim, Option, None, Some, Result, Err, list_all, position_or_len, before_first, after_first, is_utf8, IsUtf8, or_cases, eqb-true, le-ltb, lt-ltb, false_from_ne_true, arith, false≢true, is_utf8-from_IsUtf8, IsUtf8-from_is_utf8, codes, Refusal, is_space, skip_spaces, first_word, after_word, without_cr, is_all_spaces, is_comment, CsvLine, csv_named, csv_by_name, csv_text, csv_line, named_command, spelled_command, text_command, line_command, IsAsked, edit_forms, named_in, IsRead, Command, Unknown, Unreadable}
-use Rattle.wi_scenarios.specs.declared.refusal.Refusal.TheVariants.{Memory, BadCommand, BadLine}
-use Rattle.wi_cli.specs.declared.line.Line.{Line}
-use Rattle.wi_cli.specs.declared.line.Line.TheVariants as read
+use Rattle.wi_cli.proofs.Vocabulary.{◌≡◌, ℕ, Bool, true, false, cond, List, refl, sym, ap, ◌∙◌, subst, Result, codes, bytes_eq, bytes_eq-Decides, Refusal, first_word, after_word, is_all_spaces, named_command, IsReading, Err, edit_forms, named_in, Reading, suc, ◌+◌, ◌<◌, ◌≤◌, ◌||◌, not, [], ◌∷◌, length, take, ⊎_elim, Option, None, Some, position_or_len, before_first, after_first, is_utf8, IsUtf8, or_cases, eqb-true, le-ltb, lt-ltb, false_from_ne_true, arith, is_utf8-from_IsUtf8, IsUtf8-from_is_utf8, is_space, without_cr, is_comment, CsvLine, csv_named, csv_by_name, csv_text, csv_line, spelled_command, text_command, line_command, IsAsked, IsRead, Command, Unknown, Unreadable, Line}
+use Rattle.wi_scenarios.specs.declared.refusal.Refusal.TheVariants.{BadCommand, Memory, BadLine}
 use Rattle.wi_cli.specs.declared.command.Command.{Command as ReadCommand}
-use Rattle.wi_cli.proofs.NamedLemmas.{not_name, edit_named}
-use Rattle.wi_cli.proofs.Ties.Readings.{unknown, unreadable}
+use Rattle.wi_cli.specs.declared.line.Line.TheVariants as read
+use Rattle.wi_cli.proofs.Ties.Words.{no_skip}
+use Rattle.wi_cli.proofs.Ties.Readings.{compare_words, compare_text, unknown, unreadable}
+
+-- a word that is none of the other names is an edit's
+not_name : (w name : List ℕ) → (w ≡ name → ⊥) → bytes_eq w name ≡ false
+not_name w name apart = by (bytes_eq w name) refl
+  where
+    by : (b : Bool) → bytes_eq w name ≡ b → b ≡ false
+    by true e = absurd (apart ((bytes_eq-Decides w name).0 e))
+    by false e = refl
+
+-- its three words are the operands, and none is left
+pub compared : (text one behind two behind' area : List ℕ) (r : Result ReadCommand Refusal) → one ≡ first_word text → behind ≡ after_word text
+    → two ≡ first_word behind → behind' ≡ after_word behind → is_all_spaces (after_word behind') ≡ true → area ≡ first_word behind'
+    → IsReading (compare_words one two area) r → IsReading (compare_text text) r
+compared text one behind two behind' area r o b t b' e a h =
+    let b'' : behind' ≡ after_word (after_word text) = b' ∙ ap after_word b in
+    let none : is_all_spaces (after_word (after_word (after_word text))) ≡ true = sym (ap (λ x. is_all_spaces (after_word x)) b'') ∙ e in
+    let words : compare_words one two area ≡ compare_words (first_word text) (first_word (after_word text)) (first_word (after_word (after_word text))) =
+    ap (λ x. compare_words x two area) o ∙ ap (λ x. compare_words (first_word text) x area) (t ∙ ap first_word b)
+    ∙ ap (compare_words (first_word text) (first_word (after_word text))) (a ∙ ap first_word b'') in
+    let said : compare_text text ≡ compare_words (first_word text) (first_word (after_word text)) (first_word (after_word (after_word text))) =
+    ap (λ v. cond v (compare_words (first_word text) (first_word (after_word text)) (first_word (after_word (after_word text)))) (Err BadCommand)) none in
+    subst (λ (c : Reading). IsReading c r) (words ∙ sym said) h
+
+-- ---- what a line asks for, by its name and its words
 
 pub asked_same : (a b : Option CsvLine) (t u : Bool) (o p : Option Command) (r : Line) → a ≡ b → t ≡ u → o ≡ p → IsAsked b u p r → IsAsked a t o r
 asked_same a b t u o p r e f g h =
@@ -68,7 +91,9 @@ pub others_asked : (word operands : List ℕ) (r : Line)
     → (word ≡ codes "changes" → ⊥) → (word ≡ codes "compare" → ⊥) → (word ≡ codes "table" → ⊥) → (word ≡ codes "formula" → ⊥)
     → IsAsked (csv_named false word operands) true (Some (named_in (edit_forms false) word operands)) r → IsAsked (csv_by_name word operands) true (Some (named_command word operands)) r
 others_asked word operands r a b c d e f g h i j k l asked =
-    asked_same _ _ true true _ _ r (rw (not_name word (codes "force") a) refl) refl (ap (λ (c : Command). Some c) (edit_named word operands a b c d e f g h i j k l)) asked
+    let named : named_command word operands ≡ named_in (edit_forms false) word operands =
+    rw (not_name word (codes "force") a, not_name word (codes "scenario") b, not_name word (codes "drop") c, not_name word (codes "base") d, not_name word (codes "use") e, not_name word (codes "as") f, not_name word (codes "show") g, not_name word (codes "export") h, not_name word (codes "changes") i, not_name word (codes "compare") j, not_name word (codes "table") k, not_name word (codes "formula") l) refl in
+    asked_same _ _ true true _ _ r (rw (not_name word (codes "force") a) refl) refl (ap (λ (c : Command). Some c) named) asked
 
 -- a text with this name and these operands
 pub text_asked : (text word operands : List ℕ) (r : Line) → word ≡ first_word text → operands ≡ after_word text
@@ -80,15 +105,8 @@ text_asked text word operands r first behind h =
 
 -- ---- a text that is passed over
 
-no_word : (text : List ℕ) → list_all is_space text ≡ true → skip_spaces text ≡ []
-no_word [] h = refl
-no_word (b ∷ bs) h = go (eqb b 32) h (no_word bs) where
-  go : (v : Bool) → (v && list_all is_space bs) ≡ true → (list_all is_space bs ≡ true → skip_spaces bs ≡ []) → cond v (skip_spaces bs) (b ∷ bs) ≡ []
-  go true h f = f h
-  go false h f = absurd (false≢true h)
-
 spaces_ask_none : (text : List ℕ) → is_all_spaces text ≡ true → csv_text text ≡ None
-spaces_ask_none text h = ap (λ s. csv_by_name (before_first is_space s) (after_first is_space s)) (no_word text h)
+spaces_ask_none text h = ap (λ s. csv_by_name (before_first is_space s) (after_first is_space s)) (no_skip text h)
 
 comment_asks_none : (text : List ℕ) → is_comment text ≡ true → csv_text text ≡ None
 comment_asks_none [] h = refl

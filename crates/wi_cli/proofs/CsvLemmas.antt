@@ -1,18 +1,13 @@
 -- What is told of data lines.
-use Rattle.wi_cli.proofs.Vocabulary.{◌≡◌, Bool, Err, List, None, Ok, Option, Result, Some, [], ap, arith, false, if◌then◌else◌, inl, inr, length, nat_lt, refl, subst, sym, true, ℕ, ◌&&◌, ◌+◌, ◌<◌, ◌==◌, ◌∙◌, ◌≤◌, nat_tests, concat, list_any, is_long, HoldsLines, IsTarget, command_of_csv, target_of, wants, read_any, read_by, RefusedAs, Told, max_line, without_lf, DataLines, Held, BadCommand, BadLine, CutShort, Holds, lies_outside, Command, Csv, Unreadable, Cell, is_outside, IsImportStep, IsStep, State, Refusal, AddressFault, form, address}
-use Rattle.std.specs.Prelude.{is_ok}
+use Rattle.wi_cli.proofs.Vocabulary.{◌≡◌, Bool, Err, List, None, Ok, Option, Result, Some, [], ap, arith, false, if◌then◌else◌, inl, inr, length, nat_lt, refl, subst, sym, true, ℕ, ◌&&◌, ◌+◌, ◌<◌, ◌==◌, ◌∙◌, ◌≤◌, nat_tests, concat, list_any, is_long, HoldsLines, IsTarget, command_of_csv, target_of, wants, read_any, read_by, RefusedAs, Told, max_line, without_lf, DataLines, Held, BadCommand, BadLine, CutShort, Holds, lies_outside, Command, Csv, Unreadable, Cell, is_outside, IsImportStep, IsStep, State, Refusal, AddressFault, form, address, is_ok, All, All-weaker, each_fails, outside_first, long_lines, no_long_line}
 use Rattle.std.specs.List.{All as Each}
 use Rattle.wi_scenarios.specs.declared.refusal.Refusal.TheVariants as refusal
 use Rattle.wi_scenarios.specs.Answer as answer
 use Rattle.wi_cli.specs.Inner.Data.{Holds as HoldsData}
 use Rattle.wi_cli.specs.declared.csv_line.CsvLine.{CsvLine as ReadCsv}
-use Rattle.wi_cli.specs.declared.data_lines.Held.TheVariants.{All, TooLong}
+use Rattle.wi_cli.specs.declared.data_lines.Held.TheVariants.{TooLong}
 use Rattle.wi_cli.specs.declared.reply.Reply.TheVariants as told
-use Rattle.std.proofs.lemmas.List.Elements.{All-weaker}
-use Rattle.wi_values.proofs.Lists.{each_fails}
-use Rattle.wi_scenarios.proofs.EditSteps.{outside_first}
-use Rattle.wi_scenarios.proofs.CsvSteps.{long_lines, no_long_line}
-use Rattle.wi_cli.proofs.Ties.Cells.{cell_again}
+use Rattle.wi_cli.proofs.Ties.Operands.{cell_again}
 use Rattle.wi_cli.proofs.Ties.Readings.{unreadable}
 
 all_short : (lines : List (List ℕ)) → list_any is_long lines ≡ false → Each (λ line. length (without_lf line) ≤ max_line) lines
@@ -36,7 +31,7 @@ all_come k m n e h = grind (arith, nat_tests)
 
 module _ (force : Bool) (n : ℕ) (lines : List (List ℕ)) (bytes : List ℕ) where
   long : (o : Option Cell) → list_any is_long lines ≡ true → IsTarget (Csv force o n lines) force bytes (Err refusal.BadLine)
-  long o e s = (BadLine, inl (long_lines lines e, refl), refl)
+  long o e s = (BadLine, inl ((long_lines lines).0 e, refl), refl)
 
   module _ (short : list_any is_long lines ≡ false) (missing : ℕ) (count : length lines + missing ≡ n) where
     line : (s : State) (o : Option Cell) → Holds s BadLine (Csv force o n lines) → ⊥

@@ -1,7 +1,7 @@
 -- Data lines, as they are taken and held.
-use Rattle.wi_cli.proofs.Vocabulary.{◌≡◌, ℕ, ◌+◌, ◌-◌, ◌<◌, ◌≤◌, Bool, true, false, ◌||◌, ◌&&◌, cond, ltb, List, [], ◌∷◌, ◌++◌, length, take, refl, sym, ap, ◌∙◌, subst, ⊎_elim, None, Some, append_assoc, append-nil, length-append, arith, concat, list_any, is_utf8, or-true, take_all, length-take, list_any-append, false≢true, lt-ltb, le-ltb, ltb-true, cases_lt, RunFault, Held, Lacking, DataLines, raw_lines, without_cr, is_whole, CsvLine, csv_text, csv_line, is_long, raw, line_front, Place, IsOver, TookNext, BrokeNext, TookLines, IsCsv, HoldsLines, AddedTo, TookData, BrokeData}
+use Rattle.wi_cli.proofs.Vocabulary.{◌≡◌, ℕ, ◌+◌, ◌-◌, ◌<◌, ◌≤◌, Bool, true, false, ◌||◌, ◌&&◌, cond, ltb, List, [], ◌∷◌, ◌++◌, length, take, refl, sym, ap, ◌∙◌, subst, ⊎_elim, None, Some, append_assoc, append-nil, length-append, arith, concat, list_any, is_utf8, or-true, take_all, length-take, list_any-append, false≢true, lt-ltb, le-ltb, ltb-true, cases_lt, RunFault, Held, Lacking, DataLines, raw_lines, without_cr, is_whole, CsvLine, csv_text, csv_line, is_long, raw, line_front, Place, IsOver, TookNext, BrokeNext, TookLines, IsCsv, HoldsLines, AddedTo, TookData, BrokeData, All}
 use Rattle.wi_cli.specs.declared.csv_line.CsvLine.{CsvLine as ReadCsv}
-use Rattle.wi_cli.specs.declared.data_lines.Held.TheVariants.{All, TooLong}
+use Rattle.wi_cli.specs.declared.data_lines.Held.TheVariants.{TooLong}
 use Rattle.wi_cli.specs.Inner.Data.{Holds}
 use Rattle.wi_cli.proofs.LineLemmas.{raw_lines-last, raw_lines-raw, without_lf-raw, concat_push}
 use Rattle.wi_cli.proofs.TakenLemmas.{IsCsvOf, none_taken, one_taken, taken_lines, TookLines-trans, one_broke}

@@ -1,5 +1,5 @@
--- A run on a new workbook.
-use Rattle.wi_cli.proofs.Vocabulary.{◌≡◌, ℕ, Bool, true, false, List, [], ap, ◌∙◌, refl, subst, Option, Result, Ok, Err, IfOk, false≢true, Consumes-nil, Appends-nil, Limits, Stored, KeptSheet, State, state_over, new_state, Book, RunFault, Memory, Read, Write, ScriptLimit, IsRun}
+-- A run on a new workbook, and two runs in turn.
+use Rattle.wi_cli.proofs.Vocabulary.{◌≡◌, ℕ, Bool, true, false, List, [], ap, ◌∙◌, refl, subst, Option, Result, Ok, Err, IfOk, false≢true, Consumes-nil, Appends-nil, Limits, Stored, KeptSheet, State, state_over, new_state, Book, RunFault, Memory, Read, Write, IsRun, RunInTurn}
 
 -- a new workbook with these limits
 empty_within : ℕ → ℕ → State
@@ -18,18 +18,12 @@ is_new (Ok book) stored b s = b ∙ s
 is_new (Err e) stored b s = tt
 
 is_read : Result (Unit {0}) RunFault → Bool
-is_read (Ok x) = false
-is_read (Err Memory) = false
 is_read (Err Read) = true
-is_read (Err Write) = false
-is_read (Err ScriptLimit) = false
+is_read r = false
 
 is_write : Result (Unit {0}) RunFault → Bool
-is_write (Ok x) = false
-is_write (Err Memory) = false
-is_write (Err Read) = false
 is_write (Err Write) = true
-is_write (Err ScriptLimit) = false
+is_write r = false
 
 module _ {R W : Type 0} (remaining : R → Option (List ℕ)) (read_failed : R → Bool) (contents : W → Option (List ℕ)) (write_failed flushed : W → Bool) where
   -- where there is no memory to begin with, nothing is done
@@ -61,3 +55,35 @@ module _ {R W : Type 0} (remaining : R → Option (List ℕ)) (read_failed : R �
       → IsRun remaining read_failed contents write_failed flushed r source source' sink sink' first last → RunsNew r' source source' sink sink'
   ends_new r r' source source' sink sink' first last e f h =
       rw e (last, subst (λ (s : State). IsRun remaining read_failed contents write_failed flushed r source source' sink sink' s last) f h)
+
+-- ---- two runs in turn
+
+-- a run that ended by a fault
+abbrev pub faulted : RunFault → Result (Unit {0}) RunFault
+faulted e = Err e
+
+module _ {L R W : Type 0} (remaining₁ : L → Option (List ℕ)) (failed₁ : L → Bool) (remaining₂ : R → Option (List ℕ)) (failed₂ : R → Bool) (contents : W → Option (List ℕ)) (write_failed flushed : W → Bool) where
+  -- a fault in the first run
+  pub in_turn_stopped : (e : RunFault) (one one' : L) (two two' : R) (sink sink' : W) (s t : State) → two' ≡ two
+      → IsRun remaining₁ failed₁ contents write_failed flushed (faulted e) one one' sink sink' s t
+      → RunInTurn remaining₁ failed₁ remaining₂ failed₂ contents write_failed flushed (faulted e) one one' two two' sink sink' s t
+  in_turn_stopped e one one' two two' sink sink' s t same h = record { first = Err e; between = sink'; mid = t; is_run = h; goes_on = (refl, same, refl, refl) }
+
+  -- the second run after the first
+  pub in_turn_both : (x : Unit {0}) (r : Result (Unit {0}) RunFault) (one one' : L) (two two' : R) (sink between sink' : W) (s m t : State)
+      → IsRun remaining₁ failed₁ contents write_failed flushed (Ok x) one one' sink between s m → IsRun remaining₂ failed₂ contents write_failed flushed r two two' between sink' m t
+      → RunInTurn remaining₁ failed₁ remaining₂ failed₂ contents write_failed flushed r one one' two two' sink sink' s t
+  in_turn_both x r one one' two two' sink between sink' s m t h k = record { first = Ok x; between = between; mid = m; is_run = h; goes_on = k }
+
+  -- no memory for the workbook
+  pub in_turn_not_begun : (r : Result (Unit {0}) RunFault) (one : L) (two : R) (sink : W) → r ≡ Err Memory
+      → (last : State) × RunInTurn remaining₁ failed₁ remaining₂ failed₂ contents write_failed flushed r one one two two sink sink new_state last
+  in_turn_not_begun r one two sink e =
+      rw e (new_state, in_turn_stopped Memory one one two two sink sink new_state new_state refl (not_run remaining₁ failed₁ contents write_failed flushed one sink new_state))
+
+  -- on a new workbook
+  pub in_turn_new : (r r' : Result (Unit {0}) RunFault) (one one' : L) (two two' : R) (sink sink' : W) (s t : State) → r' ≡ r → s ≡ new_state
+      → RunInTurn remaining₁ failed₁ remaining₂ failed₂ contents write_failed flushed r one one' two two' sink sink' s t
+      → (last : State) × RunInTurn remaining₁ failed₁ remaining₂ failed₂ contents write_failed flushed r' one one' two two' sink sink' new_state last
+  in_turn_new r r' one one' two two' sink sink' s t e f h =
+      rw e (t, subst (λ (x : State). RunInTurn remaining₁ failed₁ remaining₂ failed₂ contents write_failed flushed r one one' two two' sink sink' x t) f h)

@@ -1,11 +1,9 @@
 -- A run of a script so far, and how it may end.
-use Rattle.wi_cli.proofs.Vocabulary.{◌≡◌, ℕ, ◌+◌, ◌-◌, ◌<◌, ◌≤◌, Bool, true, false, List, [], ◌∷◌, ◌++◌, length, take, drop, refl, sym, ap, ◌∙◌, subst, Option, None, Some, Result, Ok, Err, IfErr, OnOk, append_assoc, append-nil, length-append, inl, inr, arith, concat, option_to_list, Appends, Keeps, Consumes, IsAtEnd, prepend_known, Appends-trans, Appends-nil, Appends-kept, take_at, take-append-drop, filter_map-append, filter-append, concat-append, take-append-add, RunFault, Memory, Read, Write, ScriptLimit, State, Place, Stage, Takes, Advances, AppendsFront, raw_lines, Block, blocks, is_complete, block_command, commands, whole_lines, all_commands, complete_commands, AreWhole, AreBlocks, TookBlock, BrokeBlock, Served, Stopped, IsTurn, limited, IsRun, Command, Writes, is_whole, Outcome}
-use Rattle.std.specs.List.{filter, filter_map}
-use Rattle.wi_cli.proofs.Ties.Outcomes.{all_is, read_is, many_is, cut_is, answered}
+use Rattle.wi_cli.proofs.Vocabulary.{◌≡◌, ℕ, ◌+◌, ◌-◌, ◌<◌, ◌≤◌, Bool, true, false, List, [], ◌∷◌, ◌++◌, length, take, drop, refl, sym, ap, ◌∙◌, subst, Option, None, Some, Result, Ok, Err, IfErr, OnOk, append_assoc, append-nil, length-append, inl, inr, arith, concat, option_to_list, Appends, Keeps, Consumes, IsAtEnd, prepend_known, Appends-trans, Appends-nil, Appends-kept, take_at, take-append-drop, filter_map-append, filter-append, concat-append, take-append-add, RunFault, Memory, Read, Write, ScriptLimit, State, Place, Stage, Takes, Advances, AppendsFront, raw_lines, Block, blocks, is_complete, block_command, commands, whole_lines, all_commands, complete_commands, AreWhole, AreBlocks, TookBlock, BrokeBlock, Served, Stopped, IsTurn, limited, IsRun, Command, Writes, is_whole, Outcome, filter, filter_map}
+use Rattle.wi_cli.proofs.Ties.LinesRead.{all_is, read_is, many_is, cut_is, answered}
 use Rattle.wi_cli.proofs.TakenLemmas.{Advances-trans}
-use Rattle.wi_cli.proofs.RunLemmas.{Writes-append, may_fail, last_written}
-use Rattle.wi_cli.proofs.LineLemmas.{AreWhole-none, AreWhole-append, last_whole, some_line}
-use Rattle.wi_cli.proofs.BlockLemmas.{AreBlocks-none, AreBlocks-append}
+use Rattle.wi_cli.proofs.TurnLemmas.{Writes-append, may_fail, last_written}
+use Rattle.wi_cli.proofs.LineLemmas.{AreWhole-none, AreWhole-append, last_whole, some_line, AreBlocks-none, AreBlocks-append}
 
 -- where a run begins
 abbrev pub start : Option (List ℕ) → Place
@@ -237,10 +235,6 @@ cut_said ls bs c k are_whole are_blocks headroom =
     ∙ ap (filter_map block_command) (filter-append is_complete bs (blocks (whole_lines more)) ∙ ap (λ z. z ++ filter is_complete (blocks (whole_lines more))) are_blocks.complete)
     ∙ filter_map-append block_command bs (filter is_complete (blocks (whole_lines more)))
 
-all_by_lines : (input : List ℕ) → all_commands input ≡ commands (raw_lines input)
-unfolding all_commands
-all_by_lines input = refl
-
 module _ (left : Option (List ℕ)) (s : State) (given : Option (List ℕ)) (now next : Stage) (h : IsGoing left s given now) where
   module _ (whole : Bool) (k : Served whole now next) (w : AppendsFront now.written next.written k.reply) where
     -- the replies, with the front of the last one that was written
@@ -279,7 +273,7 @@ module _ (left : Option (List ℕ)) (s : State) (given : Option (List ℕ)) (now
         let input = concat h.lines ++ (concat took.lines ++ took.last) in
         let lines = lines_behind left s given now next h took.lines took.last took.are_whole in
         let few = few_behind left s given now next h took.lines took.last next.read.lines took.counted took.few in
-        let said = all_by_lines _ ∙ ap commands lines ∙ commands_behind left s given now next h (took.lines ++ raw_lines took.last) block.taken k.command block.are_blocks block.is_command in (
+        let said = all_is _ ∙ ap commands lines ∙ commands_behind left s given now next h (took.lines ++ raw_lines took.last) block.taken k.command block.are_blocks block.is_command in (
           input,
           out,
           consumed_all left next.read.chunk next.read.left _ (passed left s given now next h _ took.taken) (took.at_end refl),

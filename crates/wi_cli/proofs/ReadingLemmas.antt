@@ -1,7 +1,12 @@
--- A line that is being read.
-use Rattle.wi_cli.proofs.Vocabulary.{◌≡◌, ℕ, ◌<◌, ◌≤◌, Bool, true, false, ◌||◌, cond, List, [], ◌∷◌, ◌++◌, length, drop, refl, sym, ap, ◌∙◌, subst, arith, Option, Result, Err, append_assoc, append-nil, IsAtEnd, prepend_known, Consumes-trans, false≢true, RunFault, Read, Write, ScriptLimit, Takes, is_whole, line_front, raw, CanRead, HasStopped, TookPart, TookLine, Broke}
-use Rattle.wi_cli.proofs.AheadLemmas.{buffered}
+-- A line that is being read, and the bytes that are still to come.
+use Rattle.wi_cli.proofs.Vocabulary.{◌≡◌, ℕ, List, ◌++◌, ap, ◌∙◌, append_assoc, Option, None, Some, Takes, ◌<◌, ◌≤◌, Bool, true, false, ◌||◌, cond, [], ◌∷◌, length, drop, refl, sym, subst, arith, Result, Err, append-nil, IsAtEnd, prepend_known, Consumes-trans, false≢true, RunFault, Read, Write, ScriptLimit, is_whole, line_front, raw, CanRead, HasStopped, TookPart, TookLine, Broke}
 use Rattle.wi_cli.proofs.LineLemmas.{is_whole-append}
+
+pub buffered : (left : Option (List ℕ)) (xs ys taken : List ℕ) → xs ≡ taken ++ ys → Takes xs left ys left taken
+buffered None xs ys taken e = tt
+buffered (Some more) xs ys taken e = ap (λ l. l ++ more) e ∙ append_assoc taken ys more
+
+-- ---- a line that is being read
 
 -- the bytes of a line that were taken so far, of which the front is kept
 pub record IsWithin (allowed : Bool) (buffer : List ℕ) (left : Option (List ℕ)) (buffer' : List ℕ) (left' : Option (List ℕ)) (line : List ℕ) : Type 0 where

@@ -1,11 +1,9 @@
 -- Lines that were taken from the source, and the block that they are.
-use Rattle.wi_cli.proofs.Vocabulary.{◌≡◌, ℕ, ◌+◌, ◌<◌, ◌≤◌, Bool, true, false, cond, List, [], ◌∷◌, ◌++◌, length, refl, sym, ap, ◌∙◌, subst, Option, None, Some, append_assoc, append-nil, length-append, arith, concat, cons_option, option_to_list, prepend_known, Consumes-nil, concat-append, false≢true, ltb-true, ltb-false, read_address, RunFault, Memory, Read, Write, ScriptLimit, DataLines, raw_lines, without_lf, without_cr, is_whole, csv_line, Block, lines_of, begun, is_complete, blocks, line_command, command_with, block_command, Place, Advances, IsOver, raw, TookNext, BrokeNext, TookLines, BrokeLines, command_of_csv, TookData, BrokeData, TookBlock, BrokeBlock, spelled_cell, Command, Csv, Unreadable}
-use Rattle.std.specs.List.{filter, filter_map}
+use Rattle.wi_cli.proofs.Vocabulary.{◌≡◌, ℕ, ◌+◌, ◌<◌, ◌≤◌, Bool, true, false, cond, List, [], ◌∷◌, ◌++◌, length, refl, sym, ap, ◌∙◌, subst, Option, None, Some, append_assoc, append-nil, length-append, arith, concat, cons_option, option_to_list, prepend_known, Consumes-nil, concat-append, false≢true, ltb-true, ltb-false, read_address, RunFault, Memory, Read, Write, ScriptLimit, DataLines, raw_lines, without_lf, without_cr, is_whole, csv_line, Block, lines_of, begun, is_complete, blocks, line_command, command_with, block_command, Place, Advances, IsOver, raw, TookNext, BrokeNext, TookLines, BrokeLines, command_of_csv, TookData, BrokeData, TookBlock, BrokeBlock, spelled_cell, Command, Csv, Unreadable, filter, filter_map}
 use Rattle.std.specs.Str.{is_utf8, chars}
 use Rattle.wi_cli.specs.declared.csv_line.CsvLine.{CsvLine as ReadCsv}
 use Rattle.wi_cli.proofs.ReadingLemmas.{Takes-trans}
-use Rattle.wi_cli.proofs.LineLemmas.{AreWhole-none, AreWhole-one, AreWhole-append, raw_lines-last, raw_lines-raw, without_lf-raw, few_last}
-use Rattle.wi_cli.proofs.BlockLemmas.{block_of, block_at, block_lacks}
+use Rattle.wi_cli.proofs.LineLemmas.{AreWhole-none, AreWhole-one, AreWhole-append, raw_lines-last, raw_lines-raw, without_lf-raw, few_last, block_of, block_at, block_lacks}
 
 pub Advances-trans : (p q r : Place) (xs ys : List ℕ) → Advances p q xs → Advances q r ys → Advances p r (xs ++ ys)
 Advances-trans p q r xs ys h k = Takes-trans p.chunk p.left q.chunk q.left r.chunk r.left xs ys h k
@@ -88,31 +86,15 @@ TookLines-trans whole p q r h k = record {
 
 -- ---- and no more
 
-pub one_broke : (fault : RunFault) (p q r : Place) → (h : TookLines true p q) → BrokeNext fault q r → q.lines ≤ 1000000 → (d : BrokeLines fault p r) × (d.lines ≡ h.lines)
-one_broke Memory p q r h k most = absurd k
-one_broke Write p q r h k most = absurd k
-one_broke Read p q r h k most = (
-  record {
-    lines = h.lines;
-    are_whole = h.are_whole;
-    cause = (
-      k.0,
-      k.1,
-      k.2,
-      behind p q r h k.0 k.3,
-      let few = few_last k.0 q.lines k.1 (λ l. ltb-true q.lines 1000000 (k.4 l)) most in omega (arith, h.counted, few),
-    );
-  },
-  refl,
-)
-one_broke ScriptLimit p q r h k most = (
-  record {
-    lines = h.lines;
-    are_whole = h.are_whole;
-    cause = (k.0, behind p q r h (k.0 ∷ []) k.2, let full : 1000000 ≤ q.lines = ltb-false q.lines 1000000 k.1 in omega (arith, h.counted));
-  },
-  refl,
-)
+next_broke : (fault : RunFault) (q r : Place) → BrokeNext fault q r → q.lines ≤ 1000000 → (d : BrokeLines fault q r) × (d.lines ≡ [])
+next_broke Memory q r k most = absurd k
+next_broke Write q r k most = absurd k
+next_broke Read q r k most =
+    let few = few_last k.0 q.lines k.1 (λ l. ltb-true q.lines 1000000 (k.4 l)) most in
+    (record { lines = []; are_whole = AreWhole-none; cause = (k.0, k.1, k.2, k.3, omega (arith, few)) }, refl)
+next_broke ScriptLimit q r k most =
+    let full : 1000000 ≤ q.lines = ltb-false q.lines 1000000 k.1 in
+    (record { lines = []; are_whole = AreWhole-none; cause = (k.0, k.2, omega (arith, full)) }, refl)
 
 BrokeLines-behind : (fault : RunFault) (p q r : Place) → (h : TookLines true p q) → (k : BrokeLines fault q r) → (d : BrokeLines fault p r) × (d.lines ≡ h.lines ++ k.lines)
 BrokeLines-behind Memory p q r h k = absurd k.cause
@@ -139,6 +121,12 @@ BrokeLines-behind ScriptLimit p q r h k = (
   },
   refl,
 )
+
+pub one_broke : (fault : RunFault) (p q r : Place) → (h : TookLines true p q) → BrokeNext fault q r → q.lines ≤ 1000000 → (d : BrokeLines fault p r) × (d.lines ≡ h.lines)
+one_broke fault p q r h k most =
+    let next = next_broke fault q r k most in
+    let all = BrokeLines-behind fault p q r h next.0 in
+    (all.0, all.1 ∙ ap (λ ls. h.lines ++ ls) next.1 ∙ append-nil h.lines)
 
 -- ---- a line that asks for none
 
@@ -259,7 +247,7 @@ csv_block false whole p q r line most k csv is d h all = go whole (h.none_taken 
 
 pub first_broke : (fault : RunFault) (p q : Place) → p.lines ≤ 1000000 → BrokeNext fault p q → BrokeBlock fault p q
 first_broke fault p q most k =
-    let d = one_broke fault p p q (none_taken true p most (λ h. absurd (false≢true (sym h)))) k most in
+    let d = next_broke fault p q k most in
     record { broke = d.0; none_complete = ap (λ ls. filter is_complete (blocks ls)) d.1 }
 
 pub data_broke : (before : Bool) (fault : RunFault) (p q r : Place) (line : List ℕ) → p.lines ≤ 1000000 → (k : TookNext before p q line) → (csv : ReadCsv) → IsCsvOf k.took.content csv

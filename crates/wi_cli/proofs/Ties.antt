@@ -1,19 +1,9 @@
 -- That the definitions are what the code's own contracts say.
-pub mod Codes
-pub mod Cells
-pub mod Tables
-pub mod Spans
-pub mod Lacks
+pub mod Operands
 pub mod Replies
-pub mod Written
 pub mod Addresses
-pub mod Rects
 pub mod Readings
-pub mod Splitting
-pub mod OperandsRead
 pub mod Words
-pub mod CsvLines
 pub mod Texts
-pub mod LinesRead
 pub mod OneReading
-pub mod Outcomes
+pub mod LinesRead

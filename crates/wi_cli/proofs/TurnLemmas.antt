@@ -1,9 +1,51 @@
--- A line served, and its reply written.
-use Rattle.wi_cli.proofs.Vocabulary.{◌≡◌, ℕ, ◌+◌, ◌<◌, ◌≤◌, Bool, ◌||◌, not, cond, ltb, ap, refl, ◌∙◌, ⊎_elim, Some, List, ◌++◌, length, take, sym, subst, Option, None, [], Appends-nil, length-append, arith, Appends, Appends-trans, take-append-le, length-take, take_all, lt-ltb, cases_lt, is_utf8, without_cr, take-append-add, AppendsFront, Passed, Reply, Told, reply_bytes, csv_line, line_command, text_command, line_front, RunFault, Result, Err, Memory, Read, Write, ScriptLimit, Place, Stage, TookNext, Broke, TookBlock, BrokeBlock, Served, Stopped, IsTurn, Ok, CanRead, ReadsOn, IsReplied, Command, Unreadable}
-use Rattle.wi_cli.proofs.RunLemmas.{Writes-told}
+-- A line served, and its reply written, one after another.
+use Rattle.wi_cli.proofs.Vocabulary.{◌≡◌, Bool, true, false, ℕ, List, [], ◌∷◌, ◌++◌, inl, inr, refl, sym, ap, ◌∙◌, subst₂, false≢true, Option, None, Some, append-nil, append_assoc, option_to_list, refused, State, Reply, Passed, Done, Told, reply_bytes, Replies, Writes, Command, Refused, ◌+◌, ◌<◌, ◌≤◌, ◌||◌, not, cond, ltb, ⊎_elim, length, take, subst, Appends-nil, length-append, arith, Appends, Appends-trans, take-append-le, length-take, take_all, lt-ltb, cases_lt, is_utf8, without_cr, take-append-add, AppendsFront, csv_line, line_command, text_command, line_front, RunFault, Result, Err, Memory, Read, Write, ScriptLimit, Place, Stage, TookNext, Broke, TookBlock, BrokeBlock, Served, Stopped, IsTurn, Ok, CanRead, ReadsOn, IsReplied, Unreadable}
+use Rattle.wi_cli.proofs.Ties.Replies.{done, refused_as}
 use Rattle.wi_cli.proofs.ReadingLemmas.{stops_unwritten}
 use Rattle.wi_cli.proofs.TakenLemmas.{plain_block}
 use Rattle.wi_cli.proofs.DataLemmas.{no_csv}
+
+pub Writes-append : (fails : Bool) (s m t : State) (cs ds : List Command) (out more : List ℕ) → Writes false s cs out m → Writes fails m ds more t → Writes fails s (cs ++ ds) (out ++ more) t
+Writes-append fails s m t [] ds out more h k = subst₂ (λ (u : State) (x : List ℕ). Writes fails u ds x t) h.1 (ap (λ (x : List ℕ). x ++ more) (sym h.0)) k
+Writes-append fails s m t (c ∷ cs) ds out more (inl h) k =
+    inl (h.0, h.1, h.2 ++ more, h.3, ap (λ (x : List ℕ). x ++ more) h.4 ∙ append_assoc h.1 h.2 more, Writes-append fails h.0 m t cs ds h.2 more h.5 k)
+Writes-append fails s m t (c ∷ cs) ds out more (inr h) k = absurd (false≢true h.0)
+
+pub may_fail : (s : State) (cs : List Command) (out : List ℕ) (t : State) → Writes false s cs out t → Writes true s cs out t
+may_fail s [] out t h = h
+may_fail s (c ∷ cs) out t (inl h) = inl (h.0, h.1, h.2, h.3, h.4, may_fail h.0 cs h.2 t h.5)
+may_fail s (c ∷ cs) out t (inr h) = absurd (false≢true h.0)
+
+-- what is told of a line its command writes
+pub Writes-told : (o : Option Command) (a : Reply) (s t : State) (out : List ℕ) → Told o a s t out → Writes false s (option_to_list o) (reply_bytes a out) t
+Writes-told None Passed s t out h = (refl, h)
+Writes-told (Some c) Done s t out h = inl (t, reply_bytes Done out, [], done s c t out h, sym (append-nil (reply_bytes Done out)), (refl, refl))
+Writes-told (Some c) (Refused e) s t out h = inl (t, refused e, [], refused_as s c e t h.0 h.1, sym (append-nil (refused e)), (refl, refl))
+Writes-told o a s t out h = absurd h
+
+-- ---- a front of the last
+
+none_written : (s : State) (cs : List Command) → Writes true s cs [] s
+none_written s [] = (refl, refl)
+none_written s (c ∷ cs) = inr (refl, inr (refl, refl))
+
+no_front : (front rest : List ℕ) → front ++ rest ≡ [] → front ≡ []
+no_front [] rest e = refl
+no_front (b ∷ bs) rest e = absurd (no_byte b (bs ++ rest) e)
+  where
+    no_byte : (b : ℕ) (bs : List ℕ) → b ∷ bs ≡ [] → ⊥
+    no_byte b bs e = cc
+
+pub last_written : (s t : State) (last : Option Command) (others : List Command) (front rest : List ℕ) → Writes false s (option_to_list last) (front ++ rest) t → Writes true s (option_to_list last ++ others) front t
+last_written s t None others front rest h =
+    subst₂ (λ (x : List ℕ) (u : State). Writes true s others x u) (sym (no_front front rest h.0)) (sym h.1) (none_written s others)
+last_written s t (Some c) others front rest (inl h) =
+    let end : Writes false h.0 [] h.2 t = h.5 in
+    let same : front ++ rest ≡ h.1 = h.4 ∙ ap (λ (x : List ℕ). h.1 ++ x) end.0 ∙ append-nil h.1 in
+    inr (refl, inl (rest, subst₂ (Replies s c) (sym same) (sym end.1) h.3))
+last_written s t (Some c) others front rest (inr h) = absurd (false≢true h.0)
+
+-- ---- a line served, and its reply written
 
 pub AppendsFront-append : (a b c : Option (List ℕ)) (xs ys : List ℕ) → Appends a b xs → AppendsFront b c ys → AppendsFront a c (xs ++ ys)
 AppendsFront-append a b c xs ys h k =
@@ -54,18 +96,14 @@ pub answered : (r : Result Bool RunFault) (whole : Bool) (old new : Stage) {comm
     → Told command a old.state new.state out → IsReplied whole a out r old.written new.written → IsTurn r old new
 answered (Ok end) whole old new a out k told h = subst (λ x. IsTurn (Ok x) old new) (sym h.0) (served old new a out k told, h.1)
 answered (Err Write) whole old new a out k told h = (whole, served old new a out k told, h)
-answered (Err Memory) whole old new a out k told h = absurd h
-answered (Err Read) whole old new a out k told h = absurd h
-answered (Err ScriptLimit) whole old new a out k told h = absurd h
+answered (Err e) whole old new a out k told h = absurd h
 
 -- and the reader of lines reads on where it was written
 pub answered_reads : {has_failed : Bool} {capacity : ℕ} (r : Result Bool RunFault) (whole : Bool) (a : Reply) (out : List ℕ) (w w' : Option (List ℕ))
     → IsReplied whole a out r w w' → CanRead has_failed capacity → ReadsOn r has_failed capacity
 answered_reads (Ok end) whole a out w w' h k = k
 answered_reads (Err Write) whole a out w w' h k = stops_unwritten k
-answered_reads (Err Memory) whole a out w w' h k = absurd h
-answered_reads (Err Read) whole a out w w' h k = absurd h
-answered_reads (Err ScriptLimit) whole a out w w' h k = absurd h
+answered_reads (Err e) whole a out w w' h k = absurd h
 
 -- no fault of the reader of lines is "out of memory"
 pub broke_no_memory : (r : Result Bool RunFault) (e fault : RunFault) (allowed : Bool) (b : List ℕ) (l : Option (List ℕ)) (b' : List ℕ) (l' : Option (List ℕ))

@@ -4,12 +4,13 @@ pub use Rattle.std.proofs.Common.{Bool, Err, IfErr, IfOk, List, None, Ok, OnOk, 
 pub use Rattle.std.proofs.KnownBytes.{Appends-kept, Appends-nil, Appends-trans, Consumes-nil, Consumes-trans}
 pub use Rattle.std.proofs.Math.Bool.{or-false, or-true}
 pub use Rattle.std.proofs.Math.Seq.{drop-append_seam, take-add, take-append-add, take-append_seam}
-pub use Rattle.std.proofs.lemmas.Bool.{and_parts, both_ways, cases_lt, eqb-true, false_from_ne_true, false≢true, le-leb, le-ltb, leb-true, lt-ltb, ltb-false, ltb-true, ne_eqb, not-false, or_cases, or_parts}
+pub use Rattle.std.proofs.lemmas.Bool.{and_from, and_parts, both_ways, cases_lt, eqb-true, false_from_ne_true, false≢true, le-leb, le-ltb, leb-true, lt-ltb, ltb-false, ltb-true, ne_eqb, not-false, or_cases, or_parts}
 pub use Rattle.std.proofs.lemmas.Bool.Decides.{nat_tests}
-pub use Rattle.std.proofs.lemmas.List.{drop_all, drop_more, get_or-take, length-drop, length-take, nil_from_length, take-append-drop, take-append-le, take_all, take_at, take_min, take_rest}
-pub use Rattle.std.proofs.lemmas.List.Elements.{filter-append, filter_map-append}
+pub use Rattle.std.proofs.lemmas.List.{at_drop_all, at_drop_more, drop_all, drop_more, get_or-take, length-drop, length-take, nil_from_length, take-append-drop, take-append-le, take_all, take_at, take_min, take_rest}
+pub use Rattle.std.proofs.lemmas.List.Elements.{All-weaker, filter-append, filter_map-append}
 pub use Rattle.std.proofs.lemmas.List.Folds.{concat-append, length-prefix_len, list_all-append, list_any-append}
 pub use Rattle.std.proofs.lemmas.List.Sums.{passes_at_first, split_at_first}
+pub use Rattle.std.proofs.lemmas.Option.{none-some, same_Some}
 pub use Rattle.std.proofs.lemmas.Result.{err_from_is_err_and, on_err_weaker, on_ok_weaker}
 pub use Rattle.std.proofs.lemmas.Slice.Eq.{bytes_eq-Decides}
 pub use Rattle.std.proofs.lemmas.Str.{IsCharBoundary-before_ascii, IsCharBoundary-end, IsUtf8-from_is_utf8, encode_ascii, is_utf8-from_IsUtf8}
@@ -17,38 +18,28 @@ pub use Rattle.std.proofs.lemmas.Str.Pattern.{drop_at_char, strip_prefix_char}
 pub use Rattle.std.specs.Char.{digit_value, is_ascii_alphabetic, is_ascii_digit}
 pub use Rattle.std.specs.Cmp.Lexicographic.{pointwise}
 pub use Rattle.std.specs.Io.KnownBytes.{Appends, Consumes, IsAtEnd, Keeps, prepend_known}
-pub use Rattle.std.specs.List.{Contains, after_first, before_first, concat, cons_option, list_all, list_any, position_or_len, prefix_len}
+pub use Rattle.std.specs.List.{Contains, after_first, before_first, concat, cons_option, list_all, list_any, position, position_or_len, prefix_len}
 pub use Rattle.std.specs.Option.{IfSome, option_to_list}
+pub use Rattle.std.specs.Prelude.{is_ok}
 pub use Rattle.std.specs.Result.{result_err}
 pub use Rattle.std.specs.Str.{IsCharBoundary, IsUtf8, all_ascii_digits, byte, is_utf8}
+unfoldable pub use Rattle.std.specs.Str.{chars}
 pub use Rattle.std.specs.Str.Parse.{digits_value, digits_value_after}
 pub use Rattle.std.specs.Str.Pattern.{CutsPrefixes, FindsCharPrefix, IsTrimStartMatches}
 pub use Rattle.wi_cli.specs.Events.{AreEvents}
 pub use Rattle.wi_cli.specs.InTurn.{RunInTurn}
-pub use Rattle.wi_cli.specs.Inner.Ahead.{Takes, budget}
-pub use Rattle.wi_cli.specs.Inner.Asked.{IsAsked}
-pub use Rattle.wi_cli.specs.Inner.Blocks.{Block, begun, blocks, blocks_from, is_complete, lines_of, with_data}
-pub use Rattle.wi_cli.specs.Inner.CsvCommand.{CsvLine, csv_by_name, csv_named, csv_of, csv_operands, csv_text, is_long, read_lines}
-unfoldable pub use Rattle.wi_cli.specs.Inner.CsvCommand.{csv_line}
-pub use Rattle.wi_cli.specs.Inner.Data.{AddedTo, BrokeData, HoldsLines, IsCsv, IsTarget, TookData, command_of_csv, target_of, wants}
+pub use Rattle.wi_cli.specs.Inner.Reading.{Takes, budget, Advances, BrokeNext, IsOver, Place, Stage, TookNext, place_of, stage_of, Broke, CanRead, HasStopped, ReadsOn, TookLine, TookPart, raw}
+pub use Rattle.wi_cli.specs.Inner.Data.{IsAsked, AddedTo, BrokeData, HoldsLines, IsCsv, IsTarget, TookData, command_of_csv, target_of, wants}
+pub use Rattle.wi_cli.specs.Inner.Script.{Block, begun, blocks, blocks_from, is_complete, lines_of, with_data, CsvLine, csv_by_name, csv_named, csv_of, csv_operands, csv_text, is_long, read_lines, block_command, command_with, commands, is_comment, text_command, whole_lines}
+unfoldable pub use Rattle.wi_cli.specs.Inner.Script.{csv_line, all_commands, complete_commands, limited, line_command}
 pub use Rattle.wi_cli.specs.Inner.Forms.{AND, A_CELL, A_NAME, A_RECT, A_SESSION, A_SIDE, END, Form, Kind, MAYBE, TEXT, Value, Values, Words, as_form, base_form, changes_form, clear_form, compare_form, drop_form, edit_forms, export_form, fill_form, formula_form, forms, made, named_command, named_in, read_word, read_words, scenario_form, set_form, show_form, table_form, use_form}
 unfoldable pub use Rattle.wi_cli.specs.Inner.Forms.{spelled, spelled_command}
-pub use Rattle.wi_cli.specs.Inner.Front.{AppendsFront}
-pub use Rattle.wi_cli.specs.Inner.Operands.{Reading, at_end, both, is_all_spaces, line_fault, name_or_none, of_name, of_operand, only_name, read_any, read_any_area, read_by, read_side, spelled_corners, unless_refused, worse}
-unfoldable pub use Rattle.wi_cli.specs.Inner.Operands.{spelled_cell, spelled_rect}
-pub use Rattle.wi_cli.specs.Inner.Place.{Advances, BrokeNext, IsOver, Place, Stage, TookNext, place_of, stage_of}
-pub use Rattle.wi_cli.specs.Inner.Reading.{Broke, CanRead, HasStopped, ReadsOn, TookLine, TookPart, raw}
+pub use Rattle.wi_cli.specs.Inner.Turn.{AppendsFront, AreBlocks, AreBlocksOf, AreWhole, BrokeLines, TookLines, BrokeBlock, IsReplied, IsTurn, Served, Stopped, TookBlock}
+pub use Rattle.wi_cli.specs.Inner.Operands.{Reading, at_end, both, is_all_spaces, line_fault, name_or_none, of_name, of_operand, only_name, read_any, read_any_area, read_by, read_side, spelled_corners, unless_refused, worse, IsReadAs, IsReading, command_of, placed, fill_of, table_behind, table_of_one, table_of_two}
+unfoldable pub use Rattle.wi_cli.specs.Inner.Operands.{spelled_cell, spelled_rect, IsRead}
 unfoldable pub use Rattle.wi_cli.specs.Inner.Reading.{line_front}
-pub use Rattle.wi_cli.specs.Inner.Reply.{reply, refused_cell}
-unfoldable pub use Rattle.wi_cli.specs.Inner.Reply.{refused}
-pub use Rattle.wi_cli.specs.Inner.Script.{block_command, command_with, commands, is_comment, text_command, whole_lines}
-unfoldable pub use Rattle.wi_cli.specs.Inner.Script.{all_commands, complete_commands, limited, line_command}
-pub use Rattle.wi_cli.specs.Inner.Spelling.{IsReadAs, IsReading, command_of, placed}
-unfoldable pub use Rattle.wi_cli.specs.Inner.Spelling.{IsRead}
-pub use Rattle.wi_cli.specs.Inner.Several.{fill_of, table_behind, table_of_one, table_of_two}
-pub use Rattle.wi_cli.specs.Inner.Taken.{AreBlocks, AreBlocksOf, AreWhole, BrokeLines, TookLines}
-pub use Rattle.wi_cli.specs.Inner.Told.{IsServed, KeepsMemory, RefusedAs, Told, reply_bytes}
-pub use Rattle.wi_cli.specs.Inner.Turn.{BrokeBlock, IsReplied, IsTurn, Served, Stopped, TookBlock}
+pub use Rattle.wi_cli.specs.Inner.Told.{reply, refused_cell, IsServed, KeepsMemory, RefusedAs, Told, reply_bytes}
+unfoldable pub use Rattle.wi_cli.specs.Inner.Told.{refused}
 pub use Rattle.wi_cli.specs.Laws.{SameAddr, SameRect, Splits, a_line, asked, blocks_that_count, commands_of, cut_short, line_block, none}
 pub use Rattle.wi_cli.specs.Lines.{Bytes, after_word, first_word, is_space, is_whole, max_line, max_lines, onto_first, raw_lines, skip_spaces, without_cr, without_lf}
 pub use Rattle.wi_cli.specs.Outcome.{IsRun, Outcome, Writes}
@@ -57,19 +48,31 @@ pub use Rattle.wi_cli.specs.Script.{AreCommands, Asks, IsCommand, IsGood, IsWith
 pub use Rattle.wi_cli.specs.Spelled.{IsAddr, IsRect, IsSpelled, IsWritten, a_cell, addr, two_cells}
 pub use Rattle.wi_cli.specs.declared.data_lines.DataLines.{DataLines}
 pub use Rattle.wi_cli.specs.declared.data_lines.Held.{Held}
-pub use Rattle.wi_cli.specs.declared.data_lines.Held.TheVariants.{Lacking}
+pub use Rattle.wi_cli.specs.declared.data_lines.Held.TheVariants.{All, Lacking}
 pub use Rattle.wi_cli.specs.declared.fault.RunFault.{RunFault}
 pub use Rattle.wi_cli.specs.declared.fault.RunFault.TheVariants.{Memory, Read, ScriptLimit, Write}
+pub use Rattle.wi_cli.specs.declared.line.Line.{Line}
 pub use Rattle.wi_cli.specs.declared.reply.Reply.{Reply}
-pub use Rattle.wi_cli.specs.declared.reply.Reply.TheVariants.{Done, Passed}
+pub use Rattle.wi_cli.specs.declared.reply.Reply.TheVariants.{Done, Passed, Refused}
 pub use Rattle.wi_propagate.specs.KeptSheet.{KeptSheet}
+pub use Rattle.wi_reports.specs.Inner.Shape.{has_row, entries}
 pub use Rattle.wi_scenario_list.specs.Bases.{lacks}
+pub use Rattle.wi_scenarios.proofs.CauseTests.{first_holds, one_first, refusal_for, is_misshaped}
+pub use Rattle.wi_scenarios.proofs.ClearSteps.{clear_outside, clear_step, cleared, clear_of}
+pub use Rattle.wi_scenarios.proofs.CsvSteps.{long_lines, no_long_line}
+pub use Rattle.wi_scenarios.proofs.EditLemmas.{outside_first}
+pub use Rattle.wi_scenarios.proofs.FillSteps.{fill_outside, fill_out, fill_edit, leaves, filled_by, fill_step}
+pub use Rattle.wi_scenarios.proofs.LookSteps.{show_step, export_step, compare_step, area_answer, shown_in, show_of, exported_in, export_of_area, compared_in, compare_of, addresses, table_step, table_by}
+pub use Rattle.wi_scenarios.proofs.OperandLemmas.{placed_again, spanned_again}
+pub use Rattle.wi_scenarios.proofs.SetSteps.{set_none}
+pub use Rattle.wi_scenarios.proofs.StepLemmas.{no_other}
 pub use Rattle.wi_scenarios.specs.Answer.{Answer, MayGrow, MayRefuse, may_grow}
-pub use Rattle.wi_scenarios.specs.Commands.Causes.{BadCommand, BadField, BadLine, Cause, CutShort, EditLimit, Full, Holds, InUse, IsFirst, LeavesSheet, Loop, NoScenario, NumberRange, OutOfSheet, Outside, Stale, Syntax, TooDeep, TooLarge, TooLong, TooMany, lies_outside, order, stale_cell}
+pub use Rattle.wi_scenarios.specs.Commands.Causes.{BadCommand, BadField, BadLine, Cause, CutShort, EditLimit, Full, Holds, InUse, IsFirst, LeavesSheet, Loop, NoScenario, NumberRange, OutOfSheet, Outside, Stale, Syntax, TooDeep, TooLarge, TooLong, TooMany, cells_asked, lies_outside, order, stale_cell}
 pub use Rattle.wi_scenarios.specs.Commands.Command.{As, Base, Changes, Clear, Command, Compare, Csv, Drop, Export, Fill, Formula, Scenario, Set, Show, Table, Unknown, Unreadable, Use, form, may_force}
-pub use Rattle.wi_scenarios.specs.Commands.Operands.{ADDR, ANY, CONTENT, Cell, CornerCells, LINES, NAME, Operand, RECT, SESSION, SIDE, WORD, address, area, is_outside}
+pub use Rattle.wi_scenarios.specs.Commands.Operands.{ADDR, ANY, CONTENT, Cell, CornerCells, LINES, NAME, Operand, RECT, SESSION, SIDE, WORD, address, area, cell, is_outside, second_input}
 pub use Rattle.wi_scenarios.specs.Commands.Step.{IsFirstOf, IsImportStep, IsStep, Tells, causes}
 pub use Rattle.wi_scenarios.specs.Events.{MayHappen, left_by}
+pub use Rattle.wi_scenarios.specs.Inner.Placed.{IsTablePlaced}
 pub use Rattle.wi_scenarios.specs.Pending.{Book}
 pub use Rattle.wi_scenarios.specs.State.{State, max_area, new_state, state_over}
 pub use Rattle.wi_scenarios.specs.declared.refusal.Refusal.{Refusal}
@@ -77,6 +80,7 @@ pub use Rattle.wi_sessions.specs.Sessions.{has_session}
 pub use Rattle.wi_store.specs.Store.{Stored}
 pub use Rattle.wi_store.specs.declared.limits.Limits.{Limits}
 pub use Rattle.wi_values.proofs.Letters.{letters_of_column}
+pub use Rattle.wi_values.proofs.Lists.{each_fails}
 pub use Rattle.wi_values.proofs.ReadsBack.{no_letters, scan}
 pub use Rattle.wi_values.proofs.Spelling.{digits_step, letters_above_zero}
 pub use Rattle.wi_values.proofs.Within.{column_of_place, row_of_place}

@@ -5,7 +5,7 @@ use Rattle.wi_scenarios.specs.State.{State}
 use Rattle.wi_scenarios.specs.Events.{Event, MayFollow, state_after}
 use Rattle.wi_scenarios.specs.Commands.Command.{Command}
 use Rattle.wi_scenarios.specs.Commands.Step.{IsStep}
-use Rattle.wi_cli.specs.Inner.Reply.{reply}
+use Rattle.wi_cli.specs.Inner.Told.{reply}
 use Rattle.wi_cli.specs.Lines.{Bytes}
 
 -- Events of these commands may follow one another from s; their replies are these bytes, and they leave this state.

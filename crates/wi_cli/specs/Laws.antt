@@ -5,9 +5,7 @@ use Rattle.wi_scenarios.specs.Commands.Operands.{Cell, CornerCells}
 use Rattle.wi_scenarios.specs.Commands.Command.{Command}
 use Rattle.wi_cli.specs.Lines.{without_lf, Bytes}
 use Rattle.wi_cli.specs.Inner.Operands.{spelled_cell, spelled_rect, read_any, read_any_area}
-use Rattle.wi_cli.specs.Inner.CsvCommand.{csv_line}
-use Rattle.wi_cli.specs.Inner.Blocks.{Block, lines_of, blocks, is_complete}
-use Rattle.wi_cli.specs.Inner.Script.{block_command}
+use Rattle.wi_cli.specs.Inner.Script.{csv_line, Block, lines_of, blocks, is_complete, block_command}
 use Rattle.wi_cli.specs.Spelled.{IsAddr, IsRect}
 use Rattle.wi_cli.specs.Script.{Asks}
 

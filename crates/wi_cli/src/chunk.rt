@@ -2,7 +2,7 @@
 
 ghost use Rattle.std.specs.Prelude.{◌≡◌, ◌<◌, ◌≤◌, [], true, false, drop, length, is_err, IfOk, IfErr, OnOk, OnErr};
 ghost use Rattle.std.specs.Io.KnownBytes.{IsAtEnd, prepend_known};
-ghost use Rattle.wi_cli.specs.Inner.Ahead.{Takes, budget};
+ghost use Rattle.wi_cli.specs.Inner.Reading.{Takes, budget};
 
 use crate::fault::RunFault;
 use std::marker::Model;

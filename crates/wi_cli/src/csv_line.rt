@@ -3,7 +3,7 @@
 ghost use Rattle.std.specs.Prelude.{◌≡◌, true, min, Some, None, if◌then◌else◌, IfSome};
 ghost use Rattle.std.specs.Str.{all_ascii_digits};
 ghost use Rattle.std.specs.Str.Parse.{digits_value};
-ghost use Rattle.wi_cli.specs.Inner.CsvCommand.{read_lines, csv_operands, csv_named, csv_text};
+ghost use Rattle.wi_cli.specs.Inner.Script.{read_lines, csv_operands, csv_named, csv_text};
 ghost use Rattle.wi_cli.specs.Inner.Data.{IsCsv};
 
 use crate::lines::MAX_LINES;

@@ -3,8 +3,7 @@
 ghost use Rattle.std.specs.Prelude.{◌≡◌, ◌+◌, ◌<◌, ◌≤◌, ◌++◌, ◌∷◌, ◌&&◌, ◌||◌, nat_lt, [], List, ℕ, false, true, length, MatchResult, IfOk, OnOk, vec_capacity};
 ghost use Rattle.wi_cli.specs.Lines.{raw_lines, is_whole};
 ghost use Rattle.wi_cli.specs.Lines.{max_lines};
-ghost use Rattle.wi_cli.specs.Inner.Reading.{raw, line_front, CanRead, ReadsOn};
-ghost use Rattle.wi_cli.specs.Inner.Place.{place_of, IsOver};
+ghost use Rattle.wi_cli.specs.Inner.Reading.{raw, line_front, CanRead, ReadsOn, place_of, IsOver};
 ghost use Rattle.wi_cli.specs.Inner.Data.{wants, Holds, HoldsLines, AddedTo, TookData, BrokeData};
 
 use crate::again::{forget, free_bytes};

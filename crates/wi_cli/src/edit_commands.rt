@@ -3,11 +3,10 @@
 ghost use Rattle.std.specs.Prelude.{true, Some};
 ghost use Rattle.wi_scenarios.specs.Commands.Command.{Unknown};
 ghost use Rattle.wi_cli.specs.Lines.{first_word, after_word};
-ghost use Rattle.wi_cli.specs.Inner.CsvCommand.{csv_operands, csv_named};
-ghost use Rattle.wi_cli.specs.Inner.Several.{fill_of};
+ghost use Rattle.wi_cli.specs.Inner.Script.{csv_operands, csv_named};
+ghost use Rattle.wi_cli.specs.Inner.Operands.{fill_of, IsRead, IsReading};
 ghost use Rattle.wi_cli.specs.Inner.Forms.{set_form, clear_form, fill_form, edit_forms, spelled, named_in};
-ghost use Rattle.wi_cli.specs.Inner.Spelling.{IsRead, IsReading};
-ghost use Rattle.wi_cli.specs.Inner.Asked.{IsAsked};
+ghost use Rattle.wi_cli.specs.Inner.Data.{IsAsked};
 
 use crate::command::Command;
 use crate::csv_line::read_csv;

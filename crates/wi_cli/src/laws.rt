@@ -3,7 +3,7 @@
 ghost use Rattle.std.specs.Prelude.{◌≡◌, Bool, false, List};
 ghost use Rattle.wi_scenarios.specs.State.{State};
 ghost use Rattle.wi_scenarios.specs.Commands.Command.{Command};
-ghost use Rattle.wi_cli.specs.Inner.Blocks.{blocks};
+ghost use Rattle.wi_cli.specs.Inner.Script.{blocks};
 ghost use Rattle.wi_cli.specs.Lines.{Bytes};
 ghost use Rattle.wi_cli.specs.Laws.{commands_of, SameAddr, SameRect, Splits};
 ghost use Rattle.wi_cli.specs.Script.{AreCommands};
@@ -21,7 +21,7 @@ pub fn rectangles_are_the_same()
 {}
 
 /// Lines take data lines as their blocks do.
-#[tactic(auto, using(crate::proofs::Ties::Splitting::blocks_split))]
+#[tactic(auto, using(crate::proofs::Ties::LinesRead::blocks_split))]
 pub fn blocks_are_the_same()
     ensures { (lines : List Bytes) → Splits lines (blocks lines) }
 {}
@@ -42,7 +42,7 @@ pub fn lines_have_no_others()
 
 /// What a run has written, where its sink doesn't fail, is the replies of events: of each command one of its answers.
 /// So what holds of events one after another holds of each run.
-#[tactic(auto, using(crate::proofs::Ties::Written::are_events))]
+#[tactic(auto, using(crate::proofs::Ties::Replies::are_events))]
 pub fn runs_have_events()
     ensures { (s t : State) (cs : List Command) (out : Bytes) → Writes false s cs out t
         → AreEvents s cs out t }

@@ -5,10 +5,9 @@ ghost use Rattle.std.specs.Str.{is_utf8};
 ghost use Rattle.wi_scenarios.specs.Commands.Command.{Unreadable};
 ghost use Rattle.wi_cli.specs.Lines.{without_cr};
 ghost use Rattle.wi_cli.specs.Inner.Operands.{is_all_spaces};
-ghost use Rattle.wi_cli.specs.Inner.CsvCommand.{csv_by_name, csv_text, csv_line};
+ghost use Rattle.wi_cli.specs.Inner.Script.{csv_by_name, csv_text, csv_line, is_comment, text_command, line_command};
 ghost use Rattle.wi_cli.specs.Inner.Forms.{named_command, spelled_command};
-ghost use Rattle.wi_cli.specs.Inner.Script.{is_comment, text_command, line_command};
-ghost use Rattle.wi_cli.specs.Inner.Asked.{IsAsked};
+ghost use Rattle.wi_cli.specs.Inner.Data.{IsAsked};
 
 use crate::command::Command;
 use crate::csv_line::{CsvLine, read_csv_bytes};

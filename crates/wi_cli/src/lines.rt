@@ -2,8 +2,7 @@
 
 ghost use Rattle.std.specs.Prelude.{◌++◌, List, ℕ, ◌≡◌, ◌+◌, ◌≤◌, MatchResult, nat_lt, vec_capacity};
 ghost use Rattle.wi_cli.specs.Lines.{max_lines};
-ghost use Rattle.wi_cli.specs.Inner.Reading.{CanRead, ReadsOn, TookLine, TookPart, Broke, line_front};
-ghost use Rattle.wi_cli.specs.Inner.Place.{place_of, TookNext, BrokeNext};
+ghost use Rattle.wi_cli.specs.Inner.Reading.{CanRead, ReadsOn, TookLine, TookPart, Broke, line_front, place_of, TookNext, BrokeNext};
 
 use crate::chunk::Chunk;
 use crate::fault::RunFault;

@@ -4,9 +4,8 @@ ghost use Rattle.std.specs.Prelude.{Ok};
 ghost use Rattle.wi_values.specs.AddressReading.{read_rect};
 ghost use Rattle.wi_scenarios.specs.Commands.Command.{Compare};
 ghost use Rattle.wi_scenarios.specs.Commands.Operands.{corners};
-ghost use Rattle.wi_cli.specs.Inner.Operands.{of_name, of_operand, read_side};
+ghost use Rattle.wi_cli.specs.Inner.Operands.{of_name, of_operand, read_side, IsRead, IsReading};
 ghost use Rattle.wi_cli.specs.Inner.Forms.{show_form, export_form, changes_form, compare_form, formula_form, spelled};
-ghost use Rattle.wi_cli.specs.Inner.Spelling.{IsRead, IsReading};
 
 use crate::command::Command;
 use crate::names::read_side;

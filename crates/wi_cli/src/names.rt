@@ -1,8 +1,7 @@
 //! Names among the operands of commands.
 
 ghost use Rattle.wi_values.specs.Name.{read_name};
-ghost use Rattle.wi_cli.specs.Inner.Operands.{only_name, name_or_none, read_side};
-ghost use Rattle.wi_cli.specs.Inner.Spelling.{IsNameOf, IsNameOrNoneOf};
+ghost use Rattle.wi_cli.specs.Inner.Operands.{only_name, name_or_none, read_side, IsNameOf, IsNameOrNoneOf};
 
 use crate::words::{is_all_spaces, only_word};
 use wi_scenarios::Refusal;

@@ -2,9 +2,8 @@
 
 ghost use Rattle.std.specs.Prelude.{◌≡◌, ◌<◌, false, is_err, OnOk, OnErr};
 ghost use Rattle.std.specs.Io.KnownBytes.{Appends};
-ghost use Rattle.wi_cli.specs.Inner.Front.{AppendsFront};
-ghost use Rattle.wi_cli.specs.Inner.Reply.{refused, refused_code, refused_cell};
-ghost use Rattle.wi_cli.specs.Inner.Told.{reply_bytes};
+ghost use Rattle.wi_cli.specs.Inner.Turn.{AppendsFront};
+ghost use Rattle.wi_cli.specs.Inner.Told.{refused, refused_code, refused_cell, reply_bytes};
 
 use crate::write::write_all;
 use crate::write_address::write_address;

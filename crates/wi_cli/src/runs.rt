@@ -2,8 +2,7 @@
 
 ghost use Rattle.std.specs.Prelude.{◌≡◌, ◌≤◌, OnOk, OnErr, IfErr, Err, false, true, vec_capacity};
 ghost use Rattle.std.specs.Io.KnownBytes.{Keeps};
-ghost use Rattle.wi_cli.specs.Inner.Reading.{CanRead, ReadsOn};
-ghost use Rattle.wi_cli.specs.Inner.Place.{stage_of};
+ghost use Rattle.wi_cli.specs.Inner.Reading.{CanRead, ReadsOn, stage_of};
 ghost use Rattle.wi_cli.specs.Inner.Turn.{IsReplied, IsTurn};
 ghost use Rattle.wi_cli.specs.Lines.{max_lines};
 ghost use Rattle.wi_cli.specs.Outcome.{IsRun};

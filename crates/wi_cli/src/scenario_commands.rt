@@ -1,7 +1,7 @@
 //! The commands of scenarios and sessions, as they are read.
 
 ghost use Rattle.wi_cli.specs.Inner.Forms.{scenario_form, drop_form, base_form, use_form, as_form, spelled};
-ghost use Rattle.wi_cli.specs.Inner.Spelling.{IsRead};
+ghost use Rattle.wi_cli.specs.Inner.Operands.{IsRead};
 
 use crate::command::Command;
 use crate::names::{name_or_none, only_name, read_name};

@@ -2,7 +2,7 @@
 
 ghost use Rattle.std.specs.Prelude.{◌≡◌, ◌++◌, List, ℕ, Some};
 ghost use Rattle.wi_scenarios.specs.Commands.Command as table;
-ghost use Rattle.wi_cli.specs.Inner.Spelling.{command_of, IsRead};
+ghost use Rattle.wi_cli.specs.Inner.Operands.{command_of, IsRead};
 ghost use Rattle.wi_cli.specs.Inner.Told.{IsServed, Told};
 
 use crate::again::{forget, free_bytes, lacks_memory};

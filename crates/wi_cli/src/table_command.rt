@@ -1,8 +1,7 @@
 //! The command `table`, as it is read.
 
-ghost use Rattle.wi_cli.specs.Inner.Several.{table_of_one, table_of_two, table_behind};
+ghost use Rattle.wi_cli.specs.Inner.Operands.{table_of_one, table_of_two, table_behind, IsRead, IsReading};
 ghost use Rattle.wi_cli.specs.Inner.Forms.{table_form, spelled};
-ghost use Rattle.wi_cli.specs.Inner.Spelling.{IsRead, IsReading};
 
 use crate::command::Command;
 use crate::operands::{line_fault, worse};

@@ -2,7 +2,7 @@
 
 ghost use Rattle.std.specs.Prelude.{◌≡◌, false, is_err, OnOk, OnErr};
 ghost use Rattle.std.specs.Io.KnownBytes.{Appends};
-ghost use Rattle.wi_cli.specs.Inner.Front.{AppendsFront};
+ghost use Rattle.wi_cli.specs.Inner.Turn.{AppendsFront};
 
 use wi_devices::{DeviceFault, Sink};
 

@@ -3,7 +3,7 @@
 ghost use Rattle.std.specs.Prelude.{◌≡◌, ◌==◌, ◌||◌, false, is_err, OnOk, OnErr};
 ghost use Rattle.std.specs.Io.KnownBytes.{Appends};
 ghost use Rattle.wi_values.specs.Address.{address_text, letters_within};
-ghost use Rattle.wi_cli.specs.Inner.Front.{AppendsFront};
+ghost use Rattle.wi_cli.specs.Inner.Turn.{AppendsFront};
 
 use crate::write::write_all;
 use itoa::Buffer;

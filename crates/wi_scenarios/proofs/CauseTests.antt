@@ -1,7 +1,6 @@
 -- The answer of a command that is refused for causes which tests decide.
-use Rattle.wi_scenarios.proofs.Words.{◌≡◌, ◌↔◌, ◌<◌, ℕ, nat_lt, Bool, true, false, List, [], ◌∷◌, ◌⊎◌, inl, inr, Option, Some, None, Ok, Err, if◌then◌else◌, refl, sym, subst, arith, both_ways, ltb-true, lt-ltb, Refusal, State, max_area, Answer}
+use Rattle.wi_scenarios.proofs.Words.{◌≡◌, ◌↔◌, ◌∙◌, ◌<◌, ◌||◌, ◌&&◌, ℕ, nat_lt, nat_le, Bool, true, false, not, List, [], ◌∷◌, length, ◌⊎◌, inl, inr, Option, Some, None, is_some, Ok, Err, if◌then◌else◌, refl, sym, ap, subst, both_ways, ltb-true, lt-ltb, leb-true, le-leb, or_cases, or-true, Any, Any-weaker, Any-from_list_any, list_any, list_any-from_Any, bytes_eq, bytes_eq-Decides, IsImported, imported, imported_exactly, is_name_of, is_named, is_base, is_full, would_loop, chain, has_session, max_sessions, Session, Refusal, State, max_area, Kept, Command, Set, Clear, Fill, Csv, Scenario, Drop, Base, As, Table, Unknown, Unreadable, form, Cell, CornerCells, address, is_bent, is_missing, lies_outside, cells_asked, Put, Puts, Puts, Cause, BadLine, BadCommand, CutShort, Outside, TooLarge, NoScenario, InUse, TooMany, BadField, TooLong, OutOfSheet, NumberRange, TooDeep, Syntax, LeavesSheet, Stale, Loop, Full, EditLimit, Holds, stale_cell, Does, Tells, IsStep, causes, IsFirstOf, Answer, none-some, same_Some}
 use Rattle.wi_scenarios.specs.declared.refusal.Refusal.TheVariants as refusal
-use Rattle.wi_scenarios.proofs.CommandWords.{Command, Put, Puts, Cause, BadLine, BadCommand, CutShort, Outside, TooLarge, NoScenario, InUse, TooMany, BadField, TooLong, OutOfSheet, NumberRange, TooDeep, Syntax, LeavesSheet, Stale, Loop, Full, EditLimit, Holds, stale_cell, Does, Tells, IsStep, causes, IsFirstOf}
 
 -- the refusal for a cause; that for a stale cell, which names it, is no matter of tests
 abbrev pub refusal_for : Cause → Refusal
@@ -30,10 +29,22 @@ abbrev pub first_test : (Cause → Bool) → List Cause → Option Cause
 first_test test [] = None
 first_test test (x ∷ xs) = if test x then Some x else first_test test xs
 
--- the answer, where this is the first cause
-abbrev pub found : State × List ℕ → Option Cause → Answer
-found done None = Ok done
-found done (Some x) = Err (refusal_for x)
+-- ---- elements by a test
+
+module _ {X : Type 0} (test : X → Bool) (P : X → Type 0) (decides : (x : X) → (test x ≡ true) ↔ P x) where
+  pub any_is : (xs : List X) → (list_any test xs ≡ true) ↔ Any P xs
+  any_is xs = (
+    λ e. Any-weaker (λ x. test x ≡ true) P xs (λ x h. (decides x).0 h) (Any-from_list_any test xs e),
+    λ h. list_any-from_Any test xs (Any-weaker P (λ x. test x ≡ true) xs (λ x k. (decides x).1 k) h),
+  )
+
+named_so : (name other : List ℕ) → (bytes_eq name other ≡ true) ↔ (other ≡ name)
+named_so name other = (λ e. sym ((bytes_eq-Decides name other).0 e), λ h. (bytes_eq-Decides name other).1 (sym h))
+
+-- there is none
+pub none_there : {X : Type 0} (o : Option X) → (not (is_some o) ≡ true) ↔ (o ≡ None)
+none_there None = (λ e. refl, λ h. refl)
+none_there (Some x) = (λ e. absurd (both_ways false refl e), λ h. absurd (none-some x (sym h)))
 
 -- ---- the causes of the order
 
@@ -62,85 +73,197 @@ is_among Loop = inr (inr (inr (inr (inr (inr (inr (inr (inr (inr (inr (inr (inr 
 is_among Full = inr (inr (inr (inr (inr (inr (inr (inr (inr (inr (inr (inr (inr (inr (inr (inr (inr (inl refl)))))))))))))))))
 is_among EditLimit = inr (inr (inr (inr (inr (inr (inr (inr (inr (inr (inr (inr (inr (inr (inr (inr (inr (inr (inl refl))))))))))))))))))
 
-pub some_none : (x : Cause) → ◌≡◌ {A = Option Cause} (Some x) None → ⊥
-some_none x e = cc
+-- ---- a command that edits nothing
 
-same_some : (x y : Cause) → ◌≡◌ {A = Option Cause} (Some x) (Some y) → x ≡ y
-same_some x y e = cc
+abbrev pub EditsNone : Command → Type 0
+EditsNone (Set force at text) = ⊥
+EditsNone (Clear force rect) = ⊥
+EditsNone (Fill force at rect) = ⊥
+EditsNone (Csv force at n lines) = ⊥
+EditsNone c = Unit {0}
 
--- ---- tests of a command that edits nothing
+edits_none : (s : State) (c : Command) → EditsNone c → (stale_cell s c ≡ None) × ((puts : List Put) → Puts s c puts → ⊥)
+edits_none s (Set force at text) u = absurd u
+edits_none s (Clear force rect) u = absurd u
+edits_none s (Fill force at rect) u = absurd u
+edits_none s (Csv force at n lines) u = absurd u
+edits_none s c u = (refl, λ q h. h)
 
--- a cause that holds for it, which is none of an edit's
-abbrev pub HoldsUnedited : State → Cause → Command → Type 0
-HoldsUnedited s Stale c = ⊥
-HoldsUnedited s Full c = ⊥
-HoldsUnedited s EditLimit c = ⊥
-HoldsUnedited s x c = Holds s x c
+-- a scenario is used by a session, or another is based on it
+abbrev pub is_in_use : State → List ℕ → Bool
+is_in_use s name = list_any (λ x. is_name_of name x.scenario) s.sessions || is_base s.scenarios name
 
--- the cause is found by its test
-abbrev pub IsTested : State → Command → (Cause → Bool) → Cause → Type 0
-IsTested s c test x = (test x ≡ true) ↔ HoldsUnedited s x c
+-- the column isn't one, or the row, where there is one
+abbrev pub is_misshaped : CornerCells → Option (Cell × CornerCells) → Bool
+is_misshaped xs None = is_bent (λ c. c.column) xs
+is_misshaped xs (Some y) = is_bent (λ c. c.column) xs || is_bent (λ c. c.row) y.1
 
-pub never : (false ≡ true) ↔ ⊥
-never = (λ e. both_ways false refl e, λ h. absurd h)
+-- the test that finds a cause of such a command
+abbrev pub is_found : State → Cause → Command → Bool
+is_found s BadLine Unreadable = true
+is_found s BadCommand Unknown = true
+is_found s BadCommand (Table f r xs second) = is_misshaped xs second
+is_found s Outside c = list_any lies_outside (form c)
+is_found s TooLarge c = nat_lt max_area (cells_asked (form c))
+is_found s NoScenario (Scenario name at (b ∷ bs)) = false
+is_found s NoScenario c = list_any (is_missing s) (form c)
+is_found s InUse (Drop name) = is_in_use s name
+is_found s TooMany (Scenario name at (b ∷ bs)) = is_full s.scenarios name (address at)
+is_found s TooMany (As name) = not (has_session s.sessions name) && nat_le max_sessions (length s.sessions)
+is_found s TooLong (Scenario name at (b ∷ bs)) = not (is_some (imported (b ∷ bs)))
+is_found s Loop (Base name other) = would_loop s.scenarios name other
+is_found s x c = false
+
+never : {A : Type 0} → (A → ⊥) → (false ≡ true) ↔ A
+never none = (λ e. absurd (both_ways false refl e), λ h. absurd (none h))
+
+always : (true ≡ true) ↔ Unit {0}
+always = (λ e. tt, λ h. refl)
+
+itself : {A : Type 0} → A ↔ A
+itself = (λ h. h, λ h. h)
 
 pub is_large : (n : ℕ) → (nat_lt max_area n ≡ true) ↔ (max_area < n)
 is_large n = (λ e. ltb-true _ _ e, λ h. lt-ltb _ _ h)
 
-pub is_small : (false ≡ true) ↔ (max_area < 1)
-is_small = (λ e. absurd (both_ways false refl e), λ h. absurd (not_above h))
-  where
-    not_above : max_area < 1 → ⊥
-    not_above h = omega (arith, h)
+named_is : (name : List ℕ) (o : Option (List ℕ)) → (is_name_of name o ≡ true) ↔ (o ≡ Some name)
+named_is name None = (λ e. absurd (both_ways false refl e), λ h. cc)
+named_is name (Some other) = (
+  λ e. ap (λ (x : List ℕ). Some x) (sym ((bytes_eq-Decides name other).0 e)),
+  λ h. ap (is_name_of name) h ∙ (bytes_eq-Decides name name).1 refl,
+)
 
--- ---- the step
+any_named : {X : Type 0} (given : X → Option (List ℕ)) (name : List ℕ) (xs : List X) → (list_any (λ x. is_name_of name (given x)) xs ≡ true) ↔ Any (λ x. given x ≡ Some name) xs
+any_named given name xs = any_is (λ x. is_name_of name (given x)) (λ x. given x ≡ Some name) (λ x. named_is name (given x)) xs
 
-module _ (s : State) (c : Command) (test : Cause → Bool) (tested : (x : Cause) → IsTested s c test x) (unnamed : stale_cell s c ≡ None) (unput : (puts : List Put) → Puts s c puts → ⊥)
-    (done : State × List ℕ) (does : first_test test causes ≡ None → Does s c done) where
-  yes : (x : Cause) → test x ≡ true → Holds s x c
-  yes Stale t = absurd ((tested Stale).0 t)
-  yes Full t = absurd ((tested Full).0 t)
-  yes EditLimit t = absurd ((tested EditLimit).0 t)
-  yes x t = (tested x).0 t
+module _ (s : State) where
+  used : (name : List ℕ) → (is_in_use s name ≡ true) ↔ Holds s InUse (Drop name)
+  used name = (λ e. by (or_cases (list_any (λ x. is_name_of name x.scenario) s.sessions) (is_base s.scenarios name) e), back)
+    where
+      by : (list_any (λ x. is_name_of name x.scenario) s.sessions ≡ true) ⊎ (is_base s.scenarios name ≡ true) → Holds s InUse (Drop name)
+      by (inl h) = inl ((any_named (λ (x : Session). x.scenario) name s.sessions).0 h)
+      by (inr h) = inr ((any_named (λ (x : Kept). x.base) name s.scenarios).0 h)
 
-  unedited : (x : Cause) → Holds s x c → HoldsUnedited s x c
-  unedited Stale h = h.1 unnamed
-  unedited Full h = unput h.0 h.1
-  unedited EditLimit h = unput h.0 h.1
-  unedited x h = h
+      back : Holds s InUse (Drop name) → is_in_use s name ≡ true
+      back (inl h) = ap (λ (b : Bool). b || is_base s.scenarios name) ((any_named (λ (x : Session). x.scenario) name s.sessions).1 h)
+      back (inr h) = ap (λ (b : Bool). list_any (λ x. is_name_of name x.scenario) s.sessions || b) ((any_named (λ (x : Kept). x.base) name s.scenarios).1 h) ∙ or-true _
 
-  no : (x : Cause) → test x ≡ false → Holds s x c → ⊥
-  no x e h = both_ways _ e ((tested x).1 (unedited x h))
+  full : (there many : Bool) → ((not there && many) ≡ true) ↔ ((there ≡ false) × (many ≡ true))
+  full true many = (λ e. absurd (both_ways false refl e), λ h. absurd (both_ways true h.0 refl))
+  full false many = (λ e. (refl, e), λ h. h.1)
 
-  tells : (x : Cause) → test x ≡ true → Tells s c x (refusal_for x)
-  tells Stale t = absurd ((tested Stale).0 t)
+  too_many : (name : List ℕ) → (is_found s TooMany (As name) ≡ true) ↔ Holds s TooMany (As name)
+  too_many name =
+      let both = full (has_session s.sessions name) (nat_le max_sessions (length s.sessions)) in
+      (λ e. ((both.0 e).0, leb-true _ _ (both.0 e).1), λ h. both.1 (h.0, le-leb _ _ h.1))
+
+  too_long : (text : List ℕ) → (not (is_some (imported text)) ≡ true) ↔ IsImported text None
+  too_long text =
+      let none = none_there (imported text) in
+      let is = imported_exactly text None in
+      (λ e. is.1 (none.0 e), λ h. none.1 (is.0 h))
+
+  pub tested : (x : Cause) (c : Command) → EditsNone c → (is_found s x c ≡ true) ↔ Holds s x c
+  tested x (Set force at text) u = absurd u
+  tested x (Clear force rect) u = absurd u
+  tested x (Fill force at rect) u = absurd u
+  tested x (Csv force at n lines) u = absurd u
+  tested BadLine Unreadable u = always
+  tested BadCommand Unknown u = always
+  tested BadCommand (Table f r xs None) u = itself
+  tested BadCommand (Table f r xs (Some y)) u = itself
+  tested Outside c u = itself
+  tested TooLarge c u = is_large _
+  tested NoScenario (Scenario name at []) u = itself
+  tested NoScenario (Scenario name at (b ∷ bs)) u = never (λ h. h)
+  tested NoScenario c u = itself
+  tested InUse (Drop name) u = used name
+  tested TooMany (Scenario name at []) u = never (λ h. h)
+  tested TooMany (Scenario name at (b ∷ bs)) u = itself
+  tested TooMany (As name) u = too_many name
+  tested TooLong (Scenario name at []) u = never (λ h. h)
+  tested TooLong (Scenario name at (b ∷ bs)) u = too_long (b ∷ bs)
+  tested Stale c u = never (λ h. h.1 (edits_none s c u).0)
+  tested Loop (Base name None) u = never (λ h. h)
+  tested Loop (Base name (Some other)) u = any_is (is_named name) (λ x. x.name ≡ name) (λ x. named_so name x.name) (chain s.scenarios (Some other))
+  tested Full c u = never (λ h. (edits_none s c u).1 h.0 h.1)
+  tested EditLimit c u = never (λ h. (edits_none s c u).1 h.0 h.1)
+  tested x c u = never (λ h. h)
+
+-- ---- its step
+
+-- the first cause that is found
+abbrev pub first_found : State → Command → Option Cause
+first_found s c = first_test (λ x. is_found s x c) causes
+
+module _ (s : State) (c : Command) (u : EditsNone c) where
+  tells : (x : Cause) → is_found s x c ≡ true → Tells s c x (refusal_for x)
+  tells Stale t = absurd (both_ways false refl t)
   tells x t = refl
 
-  first_is : (xs : List Cause) (x : Cause) → first_test test xs ≡ Some x → IsFirstOf s c xs x × (test x ≡ true)
-  first_is [] x e = absurd (some_none x (sym e))
-  first_is (y ∷ ys) x e = by (test y) refl e (λ k. first_is ys x k)
+  first_is : (xs : List Cause) (x : Cause) → first_test (λ y. is_found s y c) xs ≡ Some x → IsFirstOf s c xs x × (is_found s x c ≡ true)
+  first_is [] x e = absurd (none-some x e)
+  first_is (y ∷ ys) x e = by (is_found s y c) refl e (λ k. first_is ys x k)
     where
-      by : (b : Bool) → test y ≡ b → (if b then Some y else first_test test ys) ≡ Some x → (first_test test ys ≡ Some x → IsFirstOf s c ys x × (test x ≡ true))
-          → IsFirstOf s c (y ∷ ys) x × (test x ≡ true)
+      by : (b : Bool) → is_found s y c ≡ b → (if b then Some y else first_test (λ z. is_found s z c) ys) ≡ Some x
+          → (first_test (λ z. is_found s z c) ys ≡ Some x → IsFirstOf s c ys x × (is_found s x c ≡ true)) → IsFirstOf s c (y ∷ ys) x × (is_found s x c ≡ true)
       by true t e more =
-          let same : y ≡ x = same_some y x e in
-          (inl (yes y t, sym same), subst (λ (z : Cause). test z ≡ true) same t)
+          let same : y ≡ x = same_Some y x e in
+          (inl ((tested s y c u).0 t, sym same), subst (λ (z : Cause). is_found s z c ≡ true) same t)
       by false t e more =
           let p = more e in
-          (inr (no y t, p.0), p.1)
+          (inr (λ h. both_ways _ t ((tested s y c u).1 h), p.0), p.1)
 
-  none_is : (xs : List Cause) → first_test test xs ≡ None → (x : Cause) → Among xs x → test x ≡ false
+  none_is : (xs : List Cause) → first_test (λ y. is_found s y c) xs ≡ None → (x : Cause) → Among xs x → Holds s x c → ⊥
   none_is [] e x h = absurd h
-  none_is (y ∷ ys) e x h = by (test y) refl e h (λ k i. none_is ys k x i)
+  none_is (y ∷ ys) e x h = by (is_found s y c) refl e h (λ k i. none_is ys k x i)
     where
-      by : (b : Bool) → test y ≡ b → (if b then Some y else first_test test ys) ≡ None → (y ≡ x) ⊎ Among ys x → (first_test test ys ≡ None → Among ys x → test x ≡ false)
-          → test x ≡ false
-      by true t e h more = absurd (some_none y e)
-      by false t e (inl same) more = subst (λ (z : Cause). test z ≡ false) same t
+      by : (b : Bool) → is_found s y c ≡ b → (if b then Some y else first_test (λ z. is_found s z c) ys) ≡ None → (y ≡ x) ⊎ Among ys x
+          → (first_test (λ z. is_found s z c) ys ≡ None → Among ys x → Holds s x c → ⊥) → Holds s x c → ⊥
+      by true t e h more = absurd (none-some y (sym e))
+      by false t e (inl same) more = λ h. both_ways _ t ((tested s y c u).1 (subst (λ (z : Cause). Holds s z c) (sym same) h))
       by false t e (inr h) more = more e h
 
-  pub tested_step : (o : Option Cause) → first_test test causes ≡ o → IsStep s c (found done o)
-  tested_step None e = (λ x h. no x (none_is causes e x (is_among x)) h, does e)
-  tested_step (Some x) e =
+  pub refused_for : (x : Cause) → first_found s c ≡ Some x → IsStep s c (Err (refusal_for x))
+  refused_for x e =
       let p = first_is causes x e in
       (x, p.0, tells x p.1)
+
+  pub free : first_found s c ≡ None → (x : Cause) → Holds s x c → ⊥
+  free e x h = none_is causes e x (is_among x) h
+
+  pub accepted : first_found s c ≡ None → (done : State × List ℕ) → Does s c done → IsStep s c (Ok done)
+  accepted e done does = (free e, does)
+
+-- ---- the first cause that holds is one, and so a step has one answer
+
+module _ (s : State) (c : Command) where
+  pub first_holds : (xs : List Cause) (x : Cause) → IsFirstOf s c xs x → Holds s x c
+  first_holds [] x h = absurd h
+  first_holds (z ∷ zs) x (inl h) = subst (λ (y : Cause). Holds s y c) (sym h.1) h.0
+  first_holds (z ∷ zs) x (inr h) = first_holds zs x h.1
+
+  pub one_first : (xs : List Cause) (x y : Cause) → IsFirstOf s c xs x → IsFirstOf s c xs y → x ≡ y
+  one_first [] x y h k = absurd h
+  one_first (z ∷ zs) x y (inl h) (inl k) = h.1 ∙ sym k.1
+  one_first (z ∷ zs) x y (inl h) (inr k) = absurd (k.0 h.0)
+  one_first (z ∷ zs) x y (inr h) (inl k) = absurd (h.0 k.0)
+  one_first (z ∷ zs) x y (inr h) (inr k) = one_first zs x y h.1 k.1
+
+  one_told : (x : Cause) (d e : Refusal) → Tells s c x d → Tells s c x e → d ≡ e
+  one_told Stale d e h k =
+      let same : Some h.0 ≡ Some k.0 = sym h.1 ∙ k.1 in
+      let at : h.0 ≡ k.0 = cc in
+      h.2 ∙ ap refusal.Stale at ∙ sym k.2
+  one_told x d e h k = h ∙ sym k
+
+  abbrev pub DoesOne : Type 0
+  DoesOne = (x y : State × List ℕ) → Does s c x → Does s c y → x ≡ y
+
+  pub one_answer : DoesOne → (a b : Answer) → IsStep s c a → IsStep s c b → a ≡ b
+  one_answer one (Ok x) (Ok y) h k = ap (λ (z : State × List ℕ). let a : Answer = Ok z in a) (one x y h.1 k.1)
+  one_answer one (Ok x) (Err e) h k = absurd (h.0 k.0 (first_holds causes k.0 k.1))
+  one_answer one (Err d) (Ok y) h k = absurd (k.0 h.0 (first_holds causes h.0 h.1))
+  one_answer one (Err d) (Err e) h k =
+      let same : k.0 ≡ h.0 = one_first causes k.0 h.0 k.1 h.1 in
+      ap (λ (r : Refusal). let a : Answer = Err r in a) (one_told h.0 d e h.2 (subst (λ (x : Cause). Tells s c x e) same k.2))

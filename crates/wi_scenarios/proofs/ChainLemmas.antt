@@ -1,12 +1,9 @@
 -- That each scenario has a chain after every run.
-use Rattle.wi_scenarios.proofs.Words.{◌≡◌, ◌||◌, ℕ, Bool, false, not, inl, inr, List, [], ◌∷◌, Option, Ok, Err, refl, sym, ap, subst, list_any, Stored, has_scenario, scenario_for, with_own, without_own, is_full, is_name_of, is_base, lacks, would_loop, Refusal, State, state_over, left_by, Answer, Event, MayHappen, KeepsChains, GivesChain}
-use Rattle.std.proofs.lemmas.Bool.{false_from_ne_true, not-false, or_parts}
-use Rattle.wi_scenario_list.specs.Bases.{HasChains}
-use Rattle.wi_scenario_list.proofs.ChainsKept.{based_kept, dropped_kept, has_space, is_chain, no_scenarios, own_kept}
-use Rattle.wi_scenarios.proofs.CommandWords.{Command, Set, Clear, Fill, Csv, Scenario, Drop, Base, Use, As, Show, Export, Compare, Table, Formula, Changes, Unknown, Unreadable, Cell, address, Cause, NoScenario, InUse, TooMany, Loop, Holds, Does, IsStep}
+use Rattle.wi_scenarios.proofs.Words.{◌≡◌, ◌∙◌, ◌||◌, ℕ, Bool, false, not, inl, inr, List, [], ◌∷◌, Option, Ok, Err, refl, sym, ap, subst, list_any, Stored, has_scenario, scenario_for, with_own, without_own, is_full, is_name_of, is_base, lacks, would_loop, Refusal, State, state_over, left_by, Answer, Event, MayHappen, KeepsChains, GivesChain, Command, Set, Clear, Fill, Csv, Scenario, Drop, Base, Unknown, Unreadable, Cell, address, Cause, NoScenario, InUse, TooMany, Loop, Holds, Does, IsStep, false_from_ne_true, not-false, or_parts, HasChains, based_kept, dropped_kept, has_space, is_chain, no_scenarios, own_kept}
 use Rattle.wi_scenario_list.specs.Scenarios as list
 use Rattle.wi_scenarios.specs.declared.refusal.Refusal.TheVariants as refusal
-use Rattle.wi_scenarios.proofs.ScenarioSteps.{is_in_use, drop_tested, base_tested}
+use Rattle.wi_scenarios.proofs.CauseTests.{is_in_use, tested}
+use Rattle.wi_scenarios.proofs.ScenarioSteps.{missing_base}
 
 unlike : (done : State × List ℕ) (e : Refusal) → ◌≡◌ {A = Answer} (Ok done) (Err e) → ⊥
 unlike done e h = cc
@@ -28,14 +25,14 @@ module _ (s : State) where
       → AreKept (list.with_scenario s.scenarios (record (scenario_for s.scenarios name) { base = other }))
   based_anew name other free k =
       let there = or_parts (not (has_scenario s.scenarios name)) (lacks s.scenarios other)
-      (false_from_ne_true (not (has_scenario s.scenarios name) || lacks s.scenarios other) (λ e. free NoScenario ((base_tested s name other NoScenario).0 e))) in
+      (false_from_ne_true (not (has_scenario s.scenarios name) || lacks s.scenarios other) (λ e. free NoScenario (missing_base s name other ∙ e))) in
       based_kept s.scenarios name other k (not-false (has_scenario s.scenarios name) there.0) there.1
-      (false_from_ne_true (would_loop s.scenarios name other) (λ e. free Loop ((base_tested s name other Loop).0 e)))
+      (false_from_ne_true (would_loop s.scenarios name other) (λ e. free Loop ((tested s Loop (Base name other) tt).0 e)))
 
   dropped : (name : List ℕ) → ((x : Cause) → Holds s x (Drop name) → ⊥) → AreKept (list.without_scenario s.scenarios name)
   dropped name free k =
       dropped_kept s.scenarios name k
-      (or_parts (list_any (λ x. is_name_of name x.scenario) s.sessions) (is_base s.scenarios name) (false_from_ne_true (is_in_use s name) (λ e. free InUse ((drop_tested s name InUse).0 e)))).1
+      (or_parts (list_any (λ x. is_name_of name x.scenario) s.sessions) (is_base s.scenarios name) (false_from_ne_true (is_in_use s name) (λ e. free InUse ((tested s InUse (Drop name) tt).0 e)))).1
 
   kept : (c : Command) (done : State × List ℕ) → ((x : Cause) → Holds s x c → ⊥) → Does s c done → AreKept (scenarios_in done)
   kept (Set force at text) done free h k = subst HasChains (sym (ap scenarios_in h.2)) k
@@ -49,16 +46,9 @@ module _ (s : State) where
       (has_space s.scenarios name (address at) (false_from_ne_true (is_full s.scenarios name (address at)) (λ e. free TooMany e))))
   kept (Drop name) done free h k = subst HasChains (sym (ap scenarios_in h)) (dropped name free k)
   kept (Base name other) done free h k = subst HasChains (sym (ap scenarios_in h)) (based_anew name other free k)
-  kept (Use name) done free h k = subst HasChains (sym (ap scenarios_in h)) k
-  kept (As name) done free h k = subst HasChains (sym (ap scenarios_in h)) k
-  kept (Show rect) done free h k = subst HasChains (sym (ap scenarios_in h)) k
-  kept (Export rect) done free h k = subst HasChains (sym (ap scenarios_in h)) k
-  kept (Compare p q rect) done free h k = subst HasChains (sym (ap scenarios_in h)) k
-  kept (Table f r xs second) done free h k = subst HasChains (sym (ap scenarios_in h)) k
-  kept (Formula at) done free h k = subst HasChains (sym (ap scenarios_in h)) k
-  kept Changes done free h k = subst HasChains (sym (ap scenarios_in h)) k
   kept Unknown done free h k = absurd h.1
   kept Unreadable done free h k = absurd h.1
+  kept c done free h k = subst HasChains (sym (ap scenarios_in h)) k
 
   kept_by : (c : Command) (a : Answer) → MayHappen IsStep s (record { command = c; answer = a }) → AreKept (left_by s a).scenarios
   kept_by c (Err e) h k = k

@@ -1,5 +1,5 @@
 -- What `changes` answers, and that pictures are right after it.
-use Rattle.wi_scenarios.proofs.Words.{◌≡◌, ◌≢◌, ◌<◌, ◌≤◌, ℕ, zero, suc, Bool, true, false, List, [], ◌∷◌, length, get_or, set, refl, sym, ap, subst, ◌∙◌, ⊎_elim, cases_eq, false≢true, get_or-set_same, get_or-set_other, length-set, nil_from_length, Value, Replacement, Sheet, Stored, shown, effective, value_in, sheet_size, is_one_of, Rises, changes_among, Session, new_session, told, session_at, pending_of, any_cells, picture_is_shown, Scenario, shown_to, change_list, Desk, state_of, pending_in, IsUpToDate, AreCovered, AreClosed, IsSound, IsTold}
+use Rattle.wi_scenarios.proofs.Words.{◌≡◌, ◌≢◌, ◌<◌, ◌≤◌, ℕ, zero, suc, Bool, true, false, List, [], ◌∷◌, length, get_or, set, refl, sym, ap, subst, ◌∙◌, ⊎_elim, cases_eq, false≢true, get_or-set_same, get_or-set_other, length-set, nil_from_length, Value, Replacement, Sheet, Stored, shown, effective, value_in, sheet_size, is_one_of, Rises, changes_among, Session, new_session, told, session_at, pending_of, any_cells, picture_is_shown, Kept, shown_to, change_list, Desk, state_of, pending_in, IsUpToDate, AreCovered, AreClosed, IsSound, IsTold}
 
 -- what has changed is found among the pending cells
 pub changes_found : {marked : Sheet → List ℕ → ℕ → Bool} (stored : Stored) (d : Desk) (own cells : List ℕ) (put : List Replacement) (picture found : List (ℕ × Value)) → IsSound marked stored d → Rises 0 sheet_size own
@@ -45,7 +45,7 @@ current_up_to_date stored d d' changes is within h a l none =
     ap (λ xs. get_or xs d.current (new_session [])) h.sessions ∙ get_or-set_same d.sessions.sessions d.current y (new_session []) within in
     let now : value_in y.picture a ≡ shown_to s x a = ap (λ cs. value_in (told x cs (length d.log)).picture a) is ∙ picture_is_shown x.picture (shown_to s x) a l in
     ap (λ (z : Session). value_in z.picture a) here ∙ now
-    ∙ ap (λ (xs : List Scenario). shown stored.sheet (effective xs x.scenario) a) (sym h.scenarios)
+    ∙ ap (λ (xs : List Kept). shown stored.sheet (effective xs x.scenario) a) (sym h.scenarios)
     ∙ ap (λ (z : Session). shown stored.sheet (effective d'.scenarios z.scenario) a) (sym here)
 
 -- of another session nothing has changed
@@ -60,7 +60,7 @@ other_up_to_date stored d d' changes i other h before a l none =
     ap (λ xs. get_or xs i []) h.pending ∙ get_or-set_other d.sessions.pending d.current i [] [] other in
     ap (λ (z : Session). value_in z.picture a) here
     ∙ before a l (ap (λ cs. is_one_of cs a) (sym cells) ∙ none)
-    ∙ ap (λ (xs : List Scenario). shown stored.sheet (effective xs x.scenario) a) (sym h.scenarios)
+    ∙ ap (λ (xs : List Kept). shown stored.sheet (effective xs x.scenario) a) (sym h.scenarios)
     ∙ ap (λ (z : Session). shown stored.sheet (effective d'.scenarios z.scenario) a) (sym here)
 
 covered_after : {marked : Sheet → List ℕ → ℕ → Bool} (stored : Stored) (d d' : Desk) (changes : List (ℕ × Value)) → changes ≡ change_list (state_of stored d) → IsSound marked stored d → IsTold d changes d'

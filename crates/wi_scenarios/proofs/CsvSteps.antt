@@ -1,16 +1,10 @@
--- The step of `csv`, by what its body finds.
-use Rattle.wi_scenarios.proofs.Words.{◌≡◌, ◌∙◌, ◌<◌, ◌≤◌, ℕ, Bool, true, false, ◌==◌, List, [], ◌∷◌, length, ◌⊎◌, inl, inr, Option, Some, Ok, Err, Result, if◌then◌else◌, refl, sym, ap, subst, arith, list_any, or-false, Any, both_ways, Area, Content, ImportFault, Field, fields_at, record_areas_at, AreChanges, IsFault, no_other, one_list, State, max_area, Answer, import_refusal, edit_answer, ◌-◌, None, nat_lt, nat_tests, Any-weaker, Any-from_list_any, list_any-from_Any, some_import}
-use Rattle.std.specs.List.{All}
-use Rattle.std.specs.Str.{IsUtf8}
-use Rattle.wi_values.specs.Imported.{IsImported}
-use Rattle.wi_import.specs.Fields.{IsInside}
-use Rattle.wi_import.specs.Imports.{IsImport, bad_field, too_long, out_of_sheet}
+-- The command `csv`: its step, by what its body finds, and what a call leaves.
+use Rattle.wi_scenarios.proofs.Words.{◌≡◌, ◌∙◌, ◌<◌, ◌≤◌, ℕ, Bool, true, false, ◌==◌, List, [], ◌∷◌, length, ◌⊎◌, inl, inr, Option, Some, Ok, Err, Result, if◌then◌else◌, refl, sym, ap, subst, arith, list_any, or-false, Any, both_ways, Area, Content, ImportFault, Field, fields_at, record_areas_at, AreChanges, IsFault, no_other, one_list, State, max_area, Answer, import_refusal, edit_answer, ◌-◌, None, nat_lt, nat_tests, some_import, Command, Csv, form, Cell, is_outside, cell, Put, Puts, fields, named, after_edit, Cause, BadLine, BadCommand, CutShort, Outside, TooLarge, NoScenario, BadField, TooLong, OutOfSheet, NumberRange, TooDeep, Syntax, LeavesSheet, Stale, Full, EditLimit, Holds, lies_outside, is_missing, cells_asked, Does, IsStep, causes, IsFirstOf, All, IsUtf8, IsImported, IsInside, bad_field, too_long, out_of_sheet, max_line, without_lf, IsImportStep, ◌≢◌, map, AllZip, keys_of, IsErrAnd, err_from_is_err_and, field_cell, IsChange, Refusal, Memory, MayRefuse, Serves, MayRefuseData, ServesData, imported_cells, IsPlaced, ◌↔◌, ltb-true, lt-ltb}
+use Rattle.wi_import.specs.Imports.{IsImport}
 use Rattle.wi_import.specs.declared.fault.ImportFault.TheVariants as import
 use Rattle.wi_scenarios.specs.declared.refusal.Refusal.TheVariants as refusal
-use Rattle.wi_scenarios.specs.Commands.DataLines.{max_line, without_lf}
-use Rattle.wi_scenarios.specs.Commands.Step.{IsImportStep}
-use Rattle.wi_scenarios.proofs.CommandWords.{Command, Csv, form, Cell, is_outside, cell, Put, Puts, fields, named, after_edit, Cause, BadLine, BadCommand, CutShort, Outside, TooLarge, NoScenario, BadField, TooLong, OutOfSheet, NumberRange, TooDeep, Syntax, LeavesSheet, Stale, Full, EditLimit, Holds, lies_outside, is_missing, cells_asked, Does, IsStep, causes, IsFirstOf}
-use Rattle.wi_scenarios.proofs.EditSteps.{outside_first, last, edit_step}
+use Rattle.wi_scenarios.proofs.CauseTests.{any_is}
+use Rattle.wi_scenarios.proofs.EditLemmas.{outside_first, last, edit_step}
 
 -- what an import comes to: what cells get, or a fault
 abbrev pub ImportOutcome : Type 0
@@ -132,17 +126,11 @@ module _ (s : State) (force : Bool) (c : Cell) (n : ℕ) (lines : List (List ℕ
 abbrev pub is_long : List ℕ → Bool
 is_long line = nat_lt max_line (length (without_lf line))
 
-pub long_lines : (lines : List (List ℕ)) → list_any is_long lines ≡ true → Any (λ line. max_line < length (without_lf line)) lines
-long_lines lines e = Any-weaker (λ x. is_long x ≡ true) (λ line. max_line < length (without_lf line)) lines (λ x h. above _ h) (Any-from_list_any is_long lines e)
-  where
-    above : (n : ℕ) → nat_lt max_line n ≡ true → max_line < n
-    above n h = grind (arith, nat_tests)
+pub long_lines : (lines : List (List ℕ)) → (list_any is_long lines ≡ true) ↔ Any (λ line. max_line < length (without_lf line)) lines
+long_lines lines = any_is is_long (λ line. max_line < length (without_lf line)) (λ line. (λ e. ltb-true _ _ e, λ h. lt-ltb _ _ h)) lines
 
 pub no_long_line : (lines : List (List ℕ)) → list_any is_long lines ≡ false → Any (λ line. max_line < length (without_lf line)) lines → ⊥
-no_long_line lines e h = both_ways _ e (list_any-from_Any is_long lines (Any-weaker (λ line. max_line < length (without_lf line)) (λ x. is_long x ≡ true) lines (λ x h. below _ h) h))
-  where
-    below : (n : ℕ) → max_line < n → nat_lt max_line n ≡ true
-    below n h = grind (arith, nat_tests)
+no_long_line lines e h = both_ways _ e ((long_lines lines).1 h)
 
 pub cut : (n m : ℕ) → (n - m == 0) ≡ false → m < n
 cut n m e = grind (arith, nat_tests)
@@ -155,14 +143,14 @@ pub csv_bare : (s : State) (force : Bool) (n : ℕ) (lines : List (List ℕ)) �
 csv_bare s force n lines = by (list_any is_long lines) refl
   where
     by : (long : Bool) → list_any is_long lines ≡ long → (a : Answer) × IsStep s (Csv force None n lines) a
-    by true e = (Err refusal.BadLine, (BadLine, inl (long_lines lines e, refl), refl))
+    by true e = (Err refusal.BadLine, (BadLine, inl ((long_lines lines).0 e, refl), refl))
     by false e = (Err refusal.BadCommand, (BadCommand, inr (no_long_line lines e, inl (tt, refl)), refl))
 
 pub csv_some : (s : State) (force : Bool) (c : Cell) (n : ℕ) (lines : List (List ℕ)) → (a : Answer) × IsStep s (Csv force (Some c) n lines) a
 csv_some s force c n lines = by (list_any is_long lines) (n - length lines == 0) refl refl
   where
     by : (long come : Bool) → list_any is_long lines ≡ long → (n - length lines == 0) ≡ come → (a : Answer) × IsStep s (Csv force (Some c) n lines) a
-    by true come el em = (Err refusal.BadLine, (BadLine, inl (long_lines lines el, refl), refl))
+    by true come el em = (Err refusal.BadLine, (BadLine, inl ((long_lines lines).0 el, refl), refl))
     by false false el em = (Err refusal.CutShort, (CutShort, inr (no_long_line lines el, inr (λ h. h, inl (cut _ _ em, refl))), refl))
     by false true el em =
         let out = is_outside c in
@@ -175,3 +163,50 @@ pub csv_of : (s : State) (force : Bool) (at : ℕ) (text : List ℕ) (out : Bool
 csv_of s force at text out o r is n lines are =
     subst (λ (t : List ℕ). IsStep s (Csv force (Some (cell at)) n lines) (if out then Err refusal.OutOfSheet else csv_answer s force (record_areas_at at t) r)) are.joined
     (csv_step s force (cell at) n lines (no_long lines are.short) (all_come n (length lines) are.come) out o r (subst (λ (t : List ℕ). IsImport (fields_at at t) r) (sym are.joined) is))
+
+-- ---- what `csv` answers
+
+-- ---- an import that is refused
+
+faulted : (s : State) (force : Bool) (at : ℕ) (text : List ℕ) (fault : ImportFault) → IsPlaced at → (fault ≢ import.Memory → IsFault (fields_at at text) fault)
+    → MayRefuseData (import_refusal fault) (IsImportStep s force at text)
+faulted s force at text import.BadField placed h = csv_of s force at text false placed.inside (Err import.BadField) (h (λ e. let n : ⊥ = cc in n))
+faulted s force at text import.TooLong placed h = csv_of s force at text false placed.inside (Err import.TooLong) (h (λ e. let n : ⊥ = cc in n))
+faulted s force at text import.OutOfSheet placed h = csv_of s force at text false placed.inside (Err import.OutOfSheet) (h (λ e. let n : ⊥ = cc in n))
+faulted s force at text import.Memory placed h = tt
+
+pub csv_refused : (r : Result (Unit {0}) Refusal) (s : State) (force : Bool) (at : ℕ) (text : List ℕ) (fault : ImportFault) → IsPlaced at → IsErrAnd r (λ e. e ≡ import_refusal fault) →
+    (fault ≢ import.Memory → IsFault (fields_at at text) fault) → ServesData (IsImportStep s force at text) r s s
+csv_refused r s force at text fault placed k h =
+    let p = err_from_is_err_and r k in
+    subst (λ (x : Result (Unit {0}) Refusal). ServesData (IsImportStep s force at text) x s s) (sym p.1)
+    (subst (λ (e : Refusal). MayRefuseData e (IsImportStep s force at text)) (sym p.2) (faulted s force at text fault placed h), refl)
+
+-- ---- an import that is made
+
+may_refuse_data : (e : Refusal) (IsOne IsOther : Answer → Type 0) → ((a : Answer) → IsOne a → IsOther a) → MayRefuse e IsOne → MayRefuseData e IsOther
+may_refuse_data Memory IsOne IsOther f h = tt
+may_refuse_data e IsOne IsOther f h = f (Err e) h
+
+serves_data : (IsOne IsOther : Answer → Type 0) → ((a : Answer) → IsOne a → IsOther a) → (r : Result (Unit {0}) Refusal) (s t : State) → Serves IsOne r s t [] → ServesData IsOther r s t
+serves_data IsOne IsOther f (Ok u) s t h = f (Ok (t, [])) h
+serves_data IsOne IsOther f (Err e) s t h = (may_refuse_data e IsOne IsOther f h.0, h.1)
+
+pub csv_edited : (r : Result (Unit {0}) Refusal) (s t : State) (force : Bool) (at : ℕ) (text : List ℕ) → IsPlaced at → (named : List Area) (contents : List (ℕ × Option Content)) →
+    named ≡ record_areas_at at text → AreChanges (fields_at at text) contents →
+    Serves (λ a. edit_answer s force (record { named = named; contents = contents }) ≡ a) r s t [] → ServesData (IsImportStep s force at text) r s t
+csv_edited r s t force at text placed named contents n c =
+    serves_data (λ a. edit_answer s force (record { named = named; contents = contents }) ≡ a) (IsImportStep s force at text)
+    (λ a h. subst (IsImportStep s force at text) (ap (λ (areas : List Area). edit_answer s force (record { named = areas; contents = contents })) (sym n) ∙ h)
+    (csv_of s force at text false placed.inside (Ok contents) c))
+    r s t
+
+-- the cells that get something are those of the fields
+each_cell : (fields : List Field) (contents : List (ℕ × Option Content)) → AllZip IsChange fields contents → keys_of contents ≡ map field_cell fields
+each_cell [] [] h = refl
+each_cell [] (x ∷ xs) h = absurd h
+each_cell (f ∷ fs) [] h = absurd h
+each_cell (f ∷ fs) (x ∷ xs) h = ap (λ (c : ℕ). c ∷ keys_of xs) (h.0).0 ∙ ap (λ (cells : List ℕ). field_cell f ∷ cells) (each_cell fs xs h.1)
+
+pub imported_are : (at : ℕ) (text : List ℕ) (contents : List (ℕ × Option Content)) → AreChanges (fields_at at text) contents → keys_of contents ≡ imported_cells at text
+imported_are at text contents h = each_cell (fields_at at text) contents h.each

@@ -1,6 +1,5 @@
 -- The cells whose replacement is another, as two walks collect them.
-use Rattle.wi_scenarios.proofs.Words.{◌≡◌, ◌==◌, ℕ, ◌+◌, ◌<◌, ◌≤◌, Bool, true, false, not, cond, ◌||◌, ◌&&◌, List, [], ◌∷◌, ◌++◌, map, length, drop, get_or, Option, Some, None, refl, sym, ap, ◌∙◌, subst, arith, false≢true, nat_tests, append-nil, drop_all, list_any-append, Value, Replacement, replaced, same_replacement_Decides, left_more, is_one_of, same_option, differing, AreDiffering, has-filter}
-use Rattle.std.proofs.lemmas.List.{append_assoc}
+use Rattle.wi_scenarios.proofs.Words.{◌≡◌, ◌==◌, ℕ, ◌+◌, ◌<◌, ◌≤◌, Bool, true, false, not, cond, ◌||◌, ◌&&◌, List, [], ◌∷◌, ◌++◌, map, length, drop, get_or, Option, Some, None, refl, sym, ap, ◌∙◌, subst, arith, false≢true, nat_tests, append-nil, drop_all, list_any-append, Value, Replacement, replaced, same_replacement_Decides, left_more, is_one_of, same_option, differing, AreDiffering, has-filter, append_assoc}
 
 -- ---- a walk
 

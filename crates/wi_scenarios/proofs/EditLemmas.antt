@@ -1,8 +1,101 @@
--- What an edit is answered, and what is pending after it.
-use Rattle.wi_scenarios.proofs.Words.{◌≡◌, ◌==◌, ◌<◌, ◌≤◌, ℕ, zero, suc, Bool, true, false, not, ◌&&◌, ◌||◌, ◌⊎◌, inl, inr, List, [], ◌∷◌, ◌++◌, length, map, ⊎_elim, Option, Some, None, Result, Ok, Err, refl, sym, ap, ◌∙◌, subst, arith, slice_index_or, IfOk, IsErrAnd, err_from_is_err_and, keys_of, cases_lt, false_from_ne_true, false≢true, or_left, or_right, or_parts, or_cases, length-keys_of, nat_tests, Area, Replacement, Content, Sheet, StoreFault, Stored, edited, change_without_empty, applied, shown, IsMarking, same_off_edited, accepted_is, Entry, Scenario, effective, value_in, sheet_size, is_one_of, Session, new_session, Roster, pending_of, vacant_of, is_pending_for_all, all_have_so, one_of_all_has, Refusal, Memory, Desk, State, Answer, may_grow, MayRefuse, Serves, Edit, limit_of, stale_in, with_stored, edit_answer, is_pending, AddsOnly, state_of, AreCovered, IsClosed, AreClosed, IsSound, AreMarked, HasRooms, SameBeside, MayFail, Commits, is_itself, answer_by}
+-- The end of the step of an edit, and what it leaves: stale cells, the limits of the sheet, the edit.
+use Rattle.wi_scenarios.proofs.Words.{◌≡◌, ◌<◌, ◌≤◌, ℕ, Bool, true, false, nat_lt, nat_le, List, [], ◌∷◌, length, ◌⊎◌, inl, inr, Option, Some, None, Ok, Err, refl, sym, subst, arith, nat_tests, leb-true, ltb-true, Area, State, Answer, edit_answer, stale_in, Command, Put, Puts, is_forced, named, sheet_with, after_edit, Cause, BadLine, BadCommand, CutShort, Outside, Stale, Loop, Full, EditLimit, Holds, stale_cell, Does, IsStep, causes, IsFirstOf, accepted, ◌==◌, zero, suc, not, ◌&&◌, ◌||◌, ◌++◌, map, ⊎_elim, Result, ap, ◌∙◌, slice_index_or, IfOk, IsErrAnd, err_from_is_err_and, keys_of, cases_lt, false_from_ne_true, false≢true, or_left, or_right, or_parts, or_cases, length-keys_of, Replacement, Content, Sheet, StoreFault, Stored, edited, change_without_empty, applied, shown, IsMarking, same_off_edited, accepted_is, Entry, Kept, effective, value_in, sheet_size, is_one_of, Session, new_session, Roster, pending_of, vacant_of, is_pending_for_all, all_have_so, one_of_all_has, Refusal, Memory, Desk, may_grow, MayRefuse, Serves, Edit, limit_of, with_stored, is_pending, AddsOnly, state_of, AreCovered, IsClosed, AreClosed, IsSound, AreMarked, HasRooms, SameBeside, MayFail, Commits, is_itself, answer_by}
+use Rattle.wi_scenarios.specs.declared.refusal.Refusal.TheVariants as refusal
 use Rattle.wi_store.specs.declared.fault.StoreFault.TheVariants as store
-use Rattle.wi_scenarios.proofs.CommandWords.{Command, IsStep}
-use Rattle.wi_scenarios.proofs.AnswerLemmas.{serves_as}
+use Rattle.wi_scenarios.proofs.CallLemmas.{serves_as}
+
+-- an operand lies outside, and no cause holds that is answered before
+pub outside_first : (s : State) (c : Command) → (Holds s BadLine c → ⊥) → (Holds s BadCommand c → ⊥) → (Holds s CutShort c → ⊥) → Holds s Outside c → IsStep s c (Err refusal.OutOfSheet)
+outside_first s c line command come outside = (Outside, inr (line, inr (command, inr (come, inl (outside, refl)))), refl)
+
+-- the last causes of the order
+abbrev pub last : List Cause
+last = Stale ∷ Loop ∷ Full ∷ EditLimit ∷ []
+
+not_above : (n m : ℕ) → nat_lt n m ≡ false → n < m → ⊥
+not_above n m e h = grind (arith, nat_tests)
+
+not_least : (n m : ℕ) → nat_le n m ≡ false → n ≤ m → ⊥
+not_least n m e h = grind (arith, nat_tests)
+
+module _ (s : State) (c : Command) (force : Bool) (areas : List Area) (puts : List Put) (is : Puts s c puts) (one : (q : List Put) → Puts s c q → q ≡ puts)
+    (forced : is_forced c ≡ force) (names : named c ≡ areas) (no_loop : Holds s Loop c → ⊥)
+    (front : (x : Cause) → IsFirstOf s c last x → IsFirstOf s c causes x)
+    (only : (x : Cause) → Holds s x c → Holds s Stale c ⊎ (Holds s Full c ⊎ Holds s EditLimit c))
+    (does : (done : State × List ℕ) → (q : List Put) × Puts s c q × (done ≡ (after_edit s c q, [])) → Does s c done) where
+  stale_some : (at : ℕ) → stale_in s force areas ≡ Some at → Holds s Stale c × (stale_cell s c ≡ Some at)
+  stale_some at h = by force forced h
+    where
+      by : (b : Bool) → is_forced c ≡ b → stale_in s b areas ≡ Some at → Holds s Stale c × (stale_cell s c ≡ Some at)
+      by true e h = cc
+      by false e h =
+          let found : stale_cell s c ≡ Some at = rw names h in
+          ((e, λ k. none (stale_cell s c) found k), found)
+        where
+          none : (o : Option ℕ) → o ≡ Some at → o ≡ None → ⊥
+          none o h k = cc
+
+  fresh : stale_in s force areas ≡ None → Holds s Stale c → ⊥
+  fresh h k = by force forced h
+    where
+      by : (b : Bool) → is_forced c ≡ b → stale_in s b areas ≡ None → ⊥
+      by true e h = differ (is_forced c) e k.0
+        where
+          differ : (b : Bool) → b ≡ true → b ≡ false → ⊥
+          differ b h k = cc
+      by false e h = k.1 (rw names h)
+
+  full : nat_lt s.stored.limits.cells (length (sheet_with s puts)) ≡ true → Holds s Full c
+  full e = (puts, is, ltb-true _ _ e)
+
+  not_full : nat_lt s.stored.limits.cells (length (sheet_with s puts)) ≡ false → Holds s Full c → ⊥
+  not_full e h = not_above _ _ e (subst (λ (q : List Put). s.stored.limits.cells < length (sheet_with s q)) (one h.0 h.1) h.2)
+
+  limited : nat_le s.stored.limits.edits s.stored.edits ≡ true → Holds s EditLimit c
+  limited e = (puts, is, leb-true _ _ e)
+
+  not_limited : nat_le s.stored.limits.edits s.stored.edits ≡ false → Holds s EditLimit c → ⊥
+  not_limited e h = not_least _ _ e h.2
+
+  abbrev answer_of : Option ℕ → Bool → Bool → Answer
+  answer_of (Some at) full limit = Err (refusal.Stale at)
+  answer_of None true limit = Err refusal.Full
+  answer_of None false true = Err refusal.EditLimit
+  answer_of None false false = Ok (after_edit s c puts, [])
+
+  now : (o : Option ℕ) (f l : Bool) → stale_in s force areas ≡ o → nat_lt s.stored.limits.cells (length (sheet_with s puts)) ≡ f
+      → nat_le s.stored.limits.edits s.stored.edits ≡ l → IsStep s c (answer_of o f l)
+  now (Some at) f l eo ef el =
+      let h = stale_some at eo in
+      (Stale, front Stale (inl (h.0, refl)), (at, h.1, refl))
+  now None true l eo ef el = (Full, front Full (inr (fresh eo, inr (no_loop, inl (full ef, refl)))), refl)
+  now None false true eo ef el = (EditLimit, front EditLimit (inr (fresh eo, inr (no_loop, inr (not_full ef, inl (limited el, refl))))), refl)
+  now None false false eo ef el = (none, does _ (puts, is, refl))
+    where
+      none : (x : Cause) → Holds s x c → ⊥
+      none x h = by (only x h)
+        where
+          by : Holds s Stale c ⊎ (Holds s Full c ⊎ Holds s EditLimit c) → ⊥
+          by (inl k) = fresh eo k
+          by (inr (inl k)) = not_full ef k
+          by (inr (inr k)) = not_limited el k
+
+  before : (o : Option ℕ) (f l : Bool) → stale_in s force areas ≡ o → nat_lt s.stored.limits.cells (length (sheet_with s puts)) ≡ f
+      → nat_le s.stored.limits.edits s.stored.edits ≡ l → edit_answer s force (record { named = areas; contents = puts }) ≡ answer_of o f l
+  unfolding accepted
+  before (Some at) f l eo ef el = rw eo refl
+  before None true l eo ef el = rw (eo, ef) refl
+  before None false true eo ef el = rw (eo, ef, el) refl
+  before None false false eo ef el = rw (eo, ef, el, names) refl
+
+  pub edit_step : IsStep s c (edit_answer s force (record { named = areas; contents = puts }))
+  edit_step =
+      let o = stale_in s force areas in
+      let f = nat_lt s.stored.limits.cells (length (sheet_with s puts)) in
+      let l = nat_le s.stored.limits.edits s.stored.edits in
+      subst (IsStep s c) (sym (before o f l refl refl refl)) (now o f l refl refl refl)
+
+-- ---- what an edit is answered, and what is pending after it
 
 -- an edit of these
 pub same_edit : (named areas : List Area) (contents changes : List (ℕ × Option Content)) → named ≡ areas → contents ≡ changes →
@@ -22,10 +115,8 @@ edit_fresh : (s : State) (force : Bool) (e : Edit) → stale_in s force e.named 
 edit_fresh s force e h = ap (λ (o : Option ℕ). answer_by s o e.named (applied s.stored e.contents)) h
 
 fresh_grows : (s : State) (named : List Area) (r : Result Stored StoreFault) → may_grow (answer_by s None named r) ≡ true
-fresh_grows s named (Ok stored) = refl
 fresh_grows s named (Err store.Full) = refl
-fresh_grows s named (Err store.EditLimit) = refl
-fresh_grows s named (Err store.Memory) = refl
+fresh_grows s named r = refl
 
 pub edit_grows : (s : State) (force : Bool) (e : Edit) → may_grow (edit_answer s force e) ≡ true
 edit_grows s force e = by (stale_in s force e.named)
@@ -51,12 +142,12 @@ edit_lacks r s force e k =
     subst (λ (x : Result (Unit {0}) Refusal). Serves (λ a. edit_answer s force e ≡ a) x s s []) (sym same)
     (record { answer = edit_answer s force e; is_answer = refl; grows = edit_grows s force e }, refl, refl)
 
-made : (s : State) (stored : Stored) (named : List Area) (scenarios : List Scenario) (sessions : List Session) (current : ℕ) (log : List Entry) →
+made : (s : State) (stored : Stored) (named : List Area) (scenarios : List Kept) (sessions : List Session) (current : ℕ) (log : List Entry) →
     scenarios ≡ s.scenarios → sessions ≡ s.sessions → current ≡ s.current → log ≡ s.log ++ record { session = s.current; areas = named } ∷ [] →
     with_stored s named stored ≡ record { stored = stored; scenarios = scenarios; sessions = sessions; current = current; log = log }
 made s stored named scenarios sessions current log a b c d = cc
 
-kept : (s : State) (stored : Stored) (scenarios : List Scenario) (sessions : List Session) (current : ℕ) (log : List Entry) →
+kept : (s : State) (stored : Stored) (scenarios : List Kept) (sessions : List Session) (current : ℕ) (log : List Entry) →
     stored ≡ s.stored → scenarios ≡ s.scenarios → sessions ≡ s.sessions → current ≡ s.current → log ≡ s.log →
     ◌≡◌ {A = State} (record { stored = stored; scenarios = scenarios; sessions = sessions; current = current; log = log })
     (record { stored = s.stored; scenarios = s.scenarios; sessions = s.sessions; current = s.current; log = s.log })
@@ -212,13 +303,13 @@ module _ (marked : Sheet → List ℕ → ℕ → Bool) (law : IsMarking marked)
     not_for_all i a l h = false_from_ne_true (is_pending_for_all d.sessions a) (λ k. false≢true (sym h ∙ pending_for_each marked s d sound i a l k))
 
     -- the picture of a session, of the old sheet and of the new one
-    abbrev RightAt : List Session → List Scenario → Type 0
+    abbrev RightAt : List Session → List Kept → Type 0
     RightAt xs scenarios =
         (i : ℕ) → i < length xs → (a : ℕ) → a < sheet_size → is_pending r.pending i a ≡ false → value_in (slice_index_or xs i (new_session [])).picture a ≡ shown t.sheet (effective scenarios (slice_index_or xs i (new_session [])).scenario) a
 
     covered_taken : applied s contents ≡ Ok t → AreCovered (state_of t (record n { sessions = r })) r.pending
     covered_taken made =
-        subst (λ (scenarios : List Scenario). RightAt r.sessions scenarios) (sym beside.scenarios)
+        subst (λ (scenarios : List Kept). RightAt r.sessions scenarios) (sym beside.scenarios)
         (subst (λ (xs : List Session). RightAt xs d.scenarios) (sym (taken.sessions ∙ beside.sessions))
         (λ i l a w h. let both = quiet i a l h in
         let put : List Replacement = effective d.scenarios (slice_index_or d.sessions.sessions i (new_session [])).scenario in

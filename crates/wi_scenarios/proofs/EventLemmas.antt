@@ -1,6 +1,5 @@
 -- What holds of commands one after another, whatever they are, by what each does to the sessions and to the log.
-use Rattle.wi_scenarios.proofs.Words.{◌≡◌, ◌∙◌, ℕ, ◌<◌, ◌≤◌, ◌==◌, Bool, true, false, ◌&&◌, cond, List, [], ◌∷◌, ◌++◌, length, drop, Option, refl, sym, ap, subst, append_assoc, arith, and_parts, eqb-true, length-append, drop-append-le, drop_all, Area, Value, Entry, value_in, with_changes, sheet_size, picture_is_shown, State, current_session, shown_to, Answer, change_list, Event, MayHappen, left_by, MayFollow, state_after, IsCoherent, StaysCoherent, is_accepted_changes, is_told, lists_told, with_lists, last_shown, ListsAddUp, logged_by, edits_in, edits_since, unseen, LogGrows}
-use Rattle.std.proofs.Common.{append-nil}
+use Rattle.wi_scenarios.proofs.Words.{◌≡◌, ◌∙◌, ℕ, ◌<◌, ◌≤◌, ◌==◌, Bool, true, false, ◌&&◌, cond, List, [], ◌∷◌, ◌++◌, length, drop, Option, refl, sym, ap, subst, append_assoc, arith, and_parts, eqb-true, length-append, drop-append-le, drop_all, Area, Value, Entry, value_in, with_changes, sheet_size, picture_is_shown, State, current_session, shown_to, Answer, change_list, Event, MayHappen, left_by, MayFollow, state_after, IsCoherent, StaysCoherent, is_accepted_changes, is_told, lists_told, with_lists, last_shown, ListsAddUp, logged_by, edits_in, edits_since, unseen, LogGrows, append-nil}
 use Rattle.wi_scenarios.specs.Views.{session_at}
 
 -- ---- what one command does

@@ -1,11 +1,10 @@
--- The step of `fill`, by what its body finds.
-use Rattle.wi_scenarios.proofs.Words.{◌≡◌, ◌∙◌, ◌<◌, ◌*◌, ℕ, Bool, true, false, not, ◌||◌, nat_lt, List, [], ◌∷◌, map, ◌⊎◌, inl, inr, Option, Some, None, is_some, Err, if◌then◌else◌, refl, sym, ap, subst, arith, list_any, AllZip, Any-from_list_any, list_any-from_Any, both_ways, Any-weaker, Area, size_of, cells_of, Content, content_of, State, max_area, Answer, Edit, edit_answer, copy_to, has_no_copy, or_nothing, Sheet}
-use Rattle.std.proofs.Common.{ap₂}
+-- The command `fill`: its step, by what its body finds, and what a call leaves.
+use Rattle.wi_scenarios.proofs.Words.{◌≡◌, ◌∙◌, ◌<◌, ◌*◌, ℕ, Bool, true, false, not, ◌||◌, nat_lt, List, [], ◌∷◌, map, ◌⊎◌, inl, inr, Option, Some, None, is_some, Err, if◌then◌else◌, refl, sym, ap, subst, arith, list_any, or-false, AllZip, both_ways, Area, size_of, cells_of, Content, content_of, State, max_area, Answer, Edit, edit_answer, copy_to, has_no_copy, or_nothing, Sheet, Command, Fill, form, Cell, CornerCells, is_outside, address, area, cell, corners, Put, Puts, copy_in, after_edit, Cause, Outside, TooLarge, NoScenario, LeavesSheet, Stale, Full, EditLimit, Holds, lies_outside, is_missing, cells_asked, Does, IsStep, causes, IsFirstOf, ap₂, IsPlaced, IsSpanned, ◌+◌, ◌++◌, Result, ◌≤◌, append_assoc, keys_of, flat_map, range_with_len, map-append, map-range_with_len_more, list_any-append, any_in_range, place, cells_of_row, IsErrAnd, err_from_is_err_and, Refusal, may_grow, MayRefuse, Serves, shift_refusal, ShiftFault, AreCopies, CopiesAs, HasNoCopies, cells_in, ℤ, option_map, ShiftsTo, shifted, Tree, copied, MayGrow, same_Some, ◌↔◌}
+use Rattle.wi_parser.specs.declared.content.Content.TheVariants.{Formula}
 use Rattle.wi_scenarios.specs.declared.refusal.Refusal.TheVariants as refusal
-use Rattle.wi_scenarios.specs.Inner.Placed.{IsPlaced, IsSpanned}
-use Rattle.wi_scenarios.proofs.CommandWords.{Command, Fill, form, Cell, CornerCells, is_outside, address, area, cell, corners, Put, Puts, copy_in, after_edit, Cause, Outside, TooLarge, NoScenario, LeavesSheet, Stale, Full, EditLimit, Holds, lies_outside, is_missing, cells_asked, Does, IsStep, causes, IsFirstOf}
-use Rattle.wi_scenarios.proofs.CauseTests.{is_large}
-use Rattle.wi_scenarios.proofs.EditSteps.{outside_first, last, edit_step}
+use Rattle.wi_parser.specs.declared.shift.ShiftFault.TheVariants as shift
+use Rattle.wi_scenarios.proofs.CauseTests.{is_large, any_is, none_there}
+use Rattle.wi_scenarios.proofs.EditLemmas.{outside_first, last, edit_step, edit_grows, same_edit, edit_serves}
 
 -- each cell of the rectangle gets its copy
 abbrev pub fill_edit : Sheet → ℕ → Area → Edit
@@ -26,25 +25,22 @@ module _ (copy : ℕ → Option (Option Content)) where
   abbrev IsCopy : ℕ → Put → Type 0
   IsCopy to put = (put.0 ≡ to) × (copy to ≡ Some put.1)
 
-  abbrev copied : ℕ → Put
-  copied to = (to, or_nothing (copy to))
+  abbrev copied_put : ℕ → Put
+  copied_put to = (to, or_nothing (copy to))
 
   -- each cell with its copy, where there is one
-  pub copies_are : (cells : List ℕ) → list_any (λ to. not (is_some (copy to))) cells ≡ false → AllZip IsCopy cells (map copied cells)
+  pub copies_are : (cells : List ℕ) → list_any (λ to. not (is_some (copy to))) cells ≡ false → AllZip IsCopy cells (map copied_put cells)
   copies_are [] e = tt
   copies_are (c ∷ cs) e = by (copy c) refl e (copies_are cs)
     where
       by : (o : Option (Option Content)) → copy c ≡ o → (not (is_some o) || list_any (λ to. not (is_some (copy to))) cs) ≡ false
-          → (list_any (λ to. not (is_some (copy to))) cs ≡ false → AllZip IsCopy cs (map copied cs)) → AllZip IsCopy (c ∷ cs) (map copied (c ∷ cs))
+          → (list_any (λ to. not (is_some (copy to))) cs ≡ false → AllZip IsCopy cs (map copied_put cs)) → AllZip IsCopy (c ∷ cs) (map copied_put (c ∷ cs))
       by None h e more = absurd (both_ways true e refl)
       by (Some o) h e more = ((refl, h ∙ ap (λ (x : Option (Option Content)). Some (or_nothing x)) (sym h)), more e)
 
-  same_copy : {x y : Option Content} → ◌≡◌ {A = Option (Option Content)} (Some x) (Some y) → x ≡ y
-  same_copy e = cc
-
   one_put : (to : ℕ) (p q : Put) → IsCopy to p → IsCopy to q → p ≡ q
   one_put to p q h k =
-      let same : p.1 ≡ q.1 = same_copy (sym h.1 ∙ k.1) in
+      let same : p.1 ≡ q.1 = same_Some p.1 q.1 (sym h.1 ∙ k.1) in
       ap₂ (λ (a : ℕ) (o : Option Content). let put : Put = (a, o) in put) (h.0 ∙ sym k.0) same
 
   pub one_puts : (cells : List ℕ) (ps qs : List Put) → AllZip IsCopy cells ps → AllZip IsCopy cells qs → ps ≡ qs
@@ -55,23 +51,11 @@ module _ (copy : ℕ → Option (Option Content)) where
   one_puts (c ∷ cs) (p ∷ ps) [] h k = absurd k
   one_puts (c ∷ cs) (p ∷ ps) (q ∷ qs) h k = ap₂ (λ (x : Put) (xs : List Put). x ∷ xs) (one_put c p q h.0 k.0) (one_puts cs ps qs h.1 k.1)
 
-no_copy : (o : Option (Option Content)) → not (is_some o) ≡ true → o ≡ None
-no_copy None e = refl
-no_copy (Some x) e = absurd (both_ways false refl e)
-
-none_is : (o : Option (Option Content)) → o ≡ None → not (is_some o) ≡ true
-none_is None e = refl
-none_is (Some x) e = cc
-
 -- ---- the step
 
 pub fill_outside : (force one two : Bool) (c : Cell) (r : CornerCells) → is_outside c ≡ one → (is_outside r.0 || is_outside r.1) ≡ two → list_any lies_outside (form (Fill force c r)) ≡ (one || two)
-fill_outside true true two c r o p = rw o refl
-fill_outside true false true c r o p = rw (o, p) refl
-fill_outside true false false c r o p = rw (o, p) refl
-fill_outside false true two c r o p = rw o refl
-fill_outside false false true c r o p = rw (o, p) refl
-fill_outside false false false c r o p = rw (o, p) refl
+fill_outside true one two c r o p = ap₂ ◌||◌ o (or-false _ ∙ p)
+fill_outside false one two c r o p = ap₂ ◌||◌ o (or-false _ ∙ p)
 
 -- a number of cells, as a product
 once : (n : ℕ) → n * 1 ≡ n
@@ -99,12 +83,8 @@ module _ (s : State) (force : Bool) (c : Cell) (r : CornerCells) where
   one_done x y h k =
       h.2 ∙ ap (λ (q : List Put). let d : State × List ℕ = (after_edit s fill q, []) in d) (one_puts copy (cells_of (area r)) h.0 k.0 h.1 k.1) ∙ sym k.2
 
-  leaving : leaves s (address c) (area r) ≡ true → Holds s LeavesSheet fill
-  leaving e = Any-weaker (λ to. not (is_some (copy to)) ≡ true) (λ to. copy to ≡ None) (cells_of (area r)) (λ to h. no_copy (copy to) h) (Any-from_list_any _ (cells_of (area r)) e)
-
-  not_leaving : leaves s (address c) (area r) ≡ false → Holds s LeavesSheet fill → ⊥
-  not_leaving e h =
-      both_ways _ e (list_any-from_Any _ (cells_of (area r)) (Any-weaker (λ to. copy to ≡ None) (λ to. not (is_some (copy to)) ≡ true) (cells_of (area r)) (λ to k. none_is (copy to) k) h))
+  leaving : (leaves s (address c) (area r) ≡ true) ↔ Holds s LeavesSheet fill
+  leaving = any_is (λ to. not (is_some (copy to))) (λ to. copy to ≡ None) (λ to. none_there (copy to)) (cells_of (area r))
 
   module _ (one : is_outside c ≡ false) (two : (is_outside r.0 || is_outside r.1) ≡ false) where
     inside : Holds s Outside fill → ⊥
@@ -125,7 +105,7 @@ module _ (s : State) (force : Bool) (c : Cell) (r : CornerCells) where
       only e Outside h = absurd (inside h)
       only e TooLarge h = absurd (small few h)
       only e NoScenario h = absurd (both_ways _ (none_missing force) h)
-      only e LeavesSheet h = absurd (not_leaving e h)
+      only e LeavesSheet h = absurd (both_ways _ e (leaving.1 h))
       only e Stale h = inl h
       only e Full h = inr (inl h)
       only e EditLimit h = inr (inr h)
@@ -135,13 +115,13 @@ module _ (s : State) (force : Bool) (c : Cell) (r : CornerCells) where
       filling e =
           let are : Puts s fill puts = copies_are copy (cells_of (area r)) e in
           edit_step s fill force (area r ∷ []) puts are (λ q h. one_puts copy (cells_of (area r)) q puts h are) refl refl (λ h. h)
-          (λ x h. front x (inr (not_leaving e, h))) (only e) (λ d h. h)
+          (λ x h. front x (inr (λ k. both_ways _ e (leaving.1 k), h))) (only e) (λ d h. h)
 
     -- by what holds
     pub fill_step : (large outside : Bool) → nat_lt max_area (size_of (area r)) ≡ large → leaves s (address c) (area r) ≡ outside
         → IsStep s fill (filled_by s force large outside (fill_edit s.stored.sheet (address c) (area r)))
     fill_step true outside eb el = (TooLarge, inr (λ k. k, inr (λ k. k, inr (λ k. k, inr (inside, inl (big eb, refl))))), refl)
-    fill_step false true eb el = (LeavesSheet, front eb LeavesSheet (inl (leaving el, refl)), refl)
+    fill_step false true eb el = (LeavesSheet, front eb LeavesSheet (inl (leaving.0 el, refl)), refl)
     fill_step false false eb el = filling eb el
 
   -- where an operand lies outside the sheet
@@ -158,3 +138,125 @@ module _ (s : State) (force : Bool) (from : ℕ) (a : Area) (placed : IsPlaced f
   fill_of =
       subst (λ (y : Area). FillsAs from y) spanned.again
       (subst (λ (b : ℕ). FillsAs b (area (corners a))) placed.again (fill_step s force (cell from) (corners a) placed.inside spanned.inside large outside))
+
+-- ---- what `fill` answers, and the copies that it makes
+
+module _ (s : State) (force : Bool) (from : ℕ) (area : Area) (placed : IsPlaced from) (spanned : IsSpanned area) where
+  pub fill_too_large : nat_lt max_area (size_of area) ≡ true → Serves (IsStep s (Fill force (cell from) (corners area))) (Err refusal.TooLarge) s s []
+  fill_too_large l = (fill_of s force from area placed spanned true (leaves s from area) l refl, refl, refl)
+
+  -- of a rectangle that isn't too large something may grow before the answer
+  filled_grows : (outside : Bool) (e : Edit) → may_grow (filled_by s force false outside e) ≡ true
+  filled_grows true e = refl
+  filled_grows false e = edit_grows s force e
+
+  pub may_grow_first : nat_lt max_area (size_of area) ≡ false → MayGrow (IsStep s (Fill force (cell from) (corners area)))
+  may_grow_first small = record {
+    answer = filled_by s force false (leaves s from area) (fill_edit s.stored.sheet from area);
+    is_answer = fill_of s force from area placed spanned false (leaves s from area) small refl;
+    grows = filled_grows (leaves s from area) (fill_edit s.stored.sheet from area);
+  }
+
+-- ---- copies, one after another
+
+-- one more copy
+pub one_copy : (content : Option Content) (from to : ℕ) (cells : List ℕ) (changes new : List (ℕ × Option Content)) (copy : Option Content) → copy_to content from to ≡ Some copy → new ≡ changes ++ (to, copy) ∷ []
+    → AreCopies content from cells changes → AreCopies content from (cells ++ to ∷ []) new
+one_copy content from to cells changes new copy e grown h = record {
+  all =
+      list_any-append (has_no_copy content from) cells (to ∷ [])
+      ∙ ap (λ (b : Bool). b || list_any (has_no_copy content from) (to ∷ [])) h.all
+      ∙ ap (λ o. not (is_some o) || false) e;
+  each =
+      grown ∙ ap (λ (xs : List (ℕ × Option Content)). xs ++ (to, copy) ∷ []) h.each
+      ∙ ap (λ o. map (λ to. (to, or_nothing (copy_to content from to))) cells ++ (to, or_nothing o) ∷ []) (sym e)
+      ∙ sym (map-append (λ to. (to, or_nothing (copy_to content from to))) cells (to ∷ []));
+}
+
+-- ---- the cells of a rectangle, row after row
+
+-- one more cell of a row gets its copy
+pub one_cell : (content : Option Content) (from row first n m column to : ℕ) (cells : List ℕ) (changes new : List (ℕ × Option Content)) (copy : Option Content) → first + n ≡ column → m ≡ n + 1 → to ≡ place row column
+    → copy_to content from to ≡ Some copy → new ≡ changes ++ (to, copy) ∷ [] → AreCopies content from (cells ++ cells_in row first n) changes → AreCopies content from (cells ++ cells_in row first m) new
+one_cell content from row first n m column to cells changes new copy e more at found grown h =
+    let same : cells ++ cells_in row first m ≡ (cells ++ cells_in row first n) ++ to ∷ [] =
+    ap (λ (k : ℕ). cells ++ cells_in row first k) more
+    ∙ ap (λ (xs : List ℕ). cells ++ xs) (map-range_with_len_more (place row) first n column e ∙ ap (λ (x : ℕ). cells_in row first n ++ x ∷ []) (sym at))
+    ∙ sym (append_assoc cells (cells_in row first n) (to ∷ [])) in
+    subst (λ (xs : List ℕ). AreCopies content from xs new) (sym same) (one_copy content from to (cells ++ cells_in row first n) changes new copy found grown h)
+
+-- a cell of a row has no copy
+pub no_copy_in_row : (content : Option Content) (from row first n column to : ℕ) (fault : ShiftFault) → first ≤ column → column < first + n → to ≡ place row column
+    → CopiesAs (copy_to content from to) (Err fault) → HasNoCopies content from (cells_in row first n) fault
+no_copy_in_row content from row first n column to shift.LeavesSheet l m at h =
+    any_in_range (λ c. has_no_copy content from (place row c)) (λ a k. list_any (has_no_copy content from) (cells_in row a k)) (λ a k. refl) first n column l m
+    (ap (λ (x : ℕ). has_no_copy content from x) (sym at) ∙ ap (λ o. not (is_some o)) h)
+no_copy_in_row content from row first n column to shift.Memory l m at h = tt
+
+-- a row has a cell that has no copy
+pub no_copy_in_rows : (content : Option Content) (from : ℕ) (area : Area) (first n row : ℕ) (fault : ShiftFault) → first ≤ row → row < first + n
+    → HasNoCopies content from (cells_of_row row area) fault → HasNoCopies content from (flat_map (λ r. cells_of_row r area) (range_with_len first n)) fault
+no_copy_in_rows content from area first n row shift.LeavesSheet l m h =
+    any_in_range (λ r. list_any (has_no_copy content from) (cells_of_row r area)) (λ a k. list_any (has_no_copy content from) (flat_map (λ r. cells_of_row r area) (range_with_len a k)))
+    (λ a k. list_any-append (has_no_copy content from) (cells_of_row a area) (flat_map (λ r. cells_of_row r area) (range_with_len (a + 1) k))) first n row l m h
+no_copy_in_rows content from area first n row shift.Memory l m h = tt
+
+-- ---- a fill that is refused
+
+pub fill_leaves : (r : Result (Unit {0}) Refusal) (s : State) (force : Bool) (content : Option Content) (from : ℕ) (area : Area) (fault : ShiftFault) → IsPlaced from → IsSpanned area → content ≡ content_of s.stored.sheet from
+    → nat_lt max_area (size_of area) ≡ false → IsErrAnd r (λ e. e ≡ shift_refusal fault) → HasNoCopies content from (cells_of area) fault → Serves (IsStep s (Fill force (cell from) (corners area))) r s s []
+fill_leaves r s force content from area fault placed spanned at small k none =
+    let p = err_from_is_err_and r k in
+    subst (λ x. Serves (IsStep s (Fill force (cell from) (corners area))) x s s []) (sym p.1) (by p.0 fault p.2 none, refl, refl)
+  where
+    by : (e : Refusal) (f : ShiftFault) → e ≡ shift_refusal f → HasNoCopies content from (cells_of area) f → MayRefuse e (IsStep s (Fill force (cell from) (corners area)))
+    by e shift.LeavesSheet same outside =
+        let leaves_it : leaves s from area ≡ true = subst (λ c. list_any (has_no_copy c from) (cells_of area) ≡ true) at outside in
+        subst (λ (x : Refusal). MayRefuse x (IsStep s (Fill force (cell from) (corners area)))) (sym same) (fill_of s force from area placed spanned false true small leaves_it)
+    by e shift.Memory same u =
+        subst (λ (x : Refusal). MayRefuse x (IsStep s (Fill force (cell from) (corners area)))) (sym same) (may_grow_first s force from area placed spanned small)
+
+-- ---- a fill with copies
+
+module _ (s t : State) (force : Bool) (content : Option Content) (from : ℕ) (area : Area) (named : List Area) (contents : List (ℕ × Option Content)) (placed : IsPlaced from) (spanned : IsSpanned area)
+    (at : content ≡ content_of s.stored.sheet from) (copies : AreCopies content from (cells_of area) contents) where
+  same_contents : contents ≡ (fill_edit s.stored.sheet from area).contents
+  same_contents = subst (λ c. contents ≡ map (λ to. (to, or_nothing (copy_to c from to))) (cells_of area)) at copies.each
+
+  pub fill_edited : (r : Result (Unit {0}) Refusal) → nat_lt max_area (size_of area) ≡ false → named ≡ area ∷ []
+      → Serves (λ a. edit_answer s force (record { named = named; contents = contents }) ≡ a) r s t [] → Serves (IsStep s (Fill force (cell from) (corners area))) r s t []
+  fill_edited r small n =
+      let all : leaves s from area ≡ false = subst (λ c. list_any (has_no_copy c from) (cells_of area) ≡ false) at copies.all in
+      edit_serves s (Fill force (cell from) (corners area)) force (record { named = named; contents = contents }) (fill_edit s.stored.sheet from area)
+      (same_edit named (area ∷ []) contents (fill_edit s.stored.sheet from area).contents n same_contents) (fill_of s force from area placed spanned false false small all) r t
+
+keys_of_copies : (f : ℕ → Option Content) (cells : List ℕ) → keys_of (map (λ to. (to, f to)) cells) ≡ cells
+keys_of_copies f [] = refl
+keys_of_copies f (c ∷ cells) = ap (λ (xs : List ℕ). c ∷ xs) (keys_of_copies f cells)
+
+-- the cells that get them
+pub copied_cells : (content : Option Content) (from : ℕ) (cells : List ℕ) (contents : List (ℕ × Option Content)) → AreCopies content from cells contents → keys_of contents ≡ cells
+copied_cells content from cells contents h = ap keys_of h.each ∙ keys_of_copies (λ to. or_nothing (copy_to content from to)) cells
+
+-- a copy for which memory lacks
+pub lacks_copy : (found : Option (Option Content)) (r : Result (Option Content) ShiftFault) → IsErrAnd r (λ e. e ≡ shift.Memory) → CopiesAs found r
+lacks_copy found r k =
+    let p = err_from_is_err_and r k in
+    subst (CopiesAs found) (sym p.1) (subst (λ (e : ShiftFault). CopiesAs found (Err e)) (sym p.2) tt)
+
+-- a formula's copy is what it is shifted to
+pub formula_copied : (content : Option Content) (t u : Tree) (down right d r : ℤ) → content ≡ Some (Formula t) → d ≡ down → r ≡ right → shifted d r t ≡ Some u → copied down right content ≡ Some (Some (Formula u))
+formula_copied content t u down right d r is p q h =
+    ap (copied down right) is
+    ∙ ap (option_map (λ (v : Tree). Some (Formula v))) (ap (λ (x : ℤ). shifted x right t) (sym p) ∙ ap (λ (x : ℤ). shifted d x t) (sym q) ∙ h)
+
+-- and there is none where it can't be shifted
+pub formula_not_copied : (content : Option Content) (t : Tree) (down right d r : ℤ) (fault : ShiftFault) (made : Result (Option Content) ShiftFault) → content ≡ Some (Formula t) → d ≡ down → r ≡ right → ShiftsTo (shifted d r t) (Err fault)
+    → IsErrAnd made (λ e. e ≡ fault) → CopiesAs (copied down right content) made
+formula_not_copied content t down right d r shift.LeavesSheet made is p q h k =
+    let same = err_from_is_err_and made k in
+    let none : copied down right content ≡ None =
+    ap (copied down right) is
+    ∙ ap (option_map (λ (v : Tree). Some (Formula v))) (ap (λ (x : ℤ). shifted x right t) (sym p) ∙ ap (λ (x : ℤ). shifted d x t) (sym q) ∙ h) in
+    subst (CopiesAs (copied down right content)) (sym same.1) (subst (λ (e : ShiftFault). CopiesAs (copied down right content) (Err e)) (sym same.2) none)
+formula_not_copied content t down right d r shift.Memory made is p q h k = lacks_copy (copied down right content) made k

@@ -1,14 +1,11 @@
 -- Addresses and rectangles of the sheet as operands of commands.
-use Rattle.wi_scenarios.proofs.Words.{◌≡◌, ◌∙◌, ℕ, ◌<◌, ◌≤◌, ◌||◌, Bool, true, false, nat_le, min, max, refl, ap, arith, nat_tests, Area, place, rect_of, row_of, column_of, rows, columns}
-use Rattle.wi_values.specs.Address.{height, width}
-use Rattle.wi_scenarios.specs.Inner.Placed.{IsPlaced, IsSpanned}
-use Rattle.wi_scenarios.proofs.CommandWords.{Cell, CornerCells, is_outside, address, area, cell}
+use Rattle.wi_scenarios.proofs.Words.{◌≡◌, ◌∙◌, ℕ, ◌<◌, ◌≤◌, ◌||◌, Bool, true, false, nat_le, min, max, ap, arith, nat_tests, Area, place, rect_of, row_of, column_of, rows, columns, Cell, CornerCells, is_outside, address, area, cell, height, width, IsPlaced, IsSpanned, or_parts}
 
 pub neither : (a b : Bool) → a ≡ false → b ≡ false → (a || b) ≡ false
 neither false b h k = k
 neither true b h k = h
 
-not_above : (m n : ℕ) → n < m → nat_le m n ≡ false
+pub not_above : (m n : ℕ) → n < m → nat_le m n ≡ false
 not_above m n l = grind (arith, nat_tests)
 
 below : (m n : ℕ) → nat_le m n ≡ false → n < m
@@ -77,23 +74,16 @@ spanned_by x y k l =
     spanned (rect_of x y) (omega (arith, top, k)) (omega (arith, bottom, k, l)) (omega (arith, top, bottom)) (omega (arith, left, right))
 
 row_within : (c : Cell) → is_outside c ≡ false → row_of (address c) < rows
-row_within c e = by (nat_le rows c.row) (nat_le columns c.column) refl refl e
-  where
-    by : (a b : Bool) → nat_le rows c.row ≡ a → nat_le columns c.column ≡ b → (a || b) ≡ false → row_of (address c) < rows
-    by false false h k e =
-        let up = below rows c.row h in
-        let at = row_is c.row c.column (below columns c.column k) in
-        omega (arith, up, at)
-    by true b h k e = absurd (cc)
-    by false true h k e = absurd (cc)
+row_within c e =
+    let p = or_parts (nat_le rows c.row) (nat_le columns c.column) e in
+    let up = below rows c.row p.0 in
+    let at = row_is c.row c.column (below columns c.column p.1) in
+    omega (arith, up, at)
 
 pub placed_again : (c : Cell) → is_outside c ≡ false → IsPlaced (address c)
 placed_again c e = placed (address c) (row_within c e)
 
 pub spanned_again : (r : CornerCells) → (is_outside r.0 || is_outside r.1) ≡ false → IsSpanned (area r)
-spanned_again r e = by (is_outside r.0) (is_outside r.1) refl refl e
-  where
-    by : (a b : Bool) → is_outside r.0 ≡ a → is_outside r.1 ≡ b → (a || b) ≡ false → IsSpanned (area r)
-    by false false h k e = spanned_by (address r.0) (address r.1) (row_within r.0 h) (row_within r.1 k)
-    by true b h k e = absurd (cc)
-    by false true h k e = absurd (cc)
+spanned_again r e =
+    let p = or_parts (is_outside r.0) (is_outside r.1) e in
+    spanned_by (address r.0) (address r.1) (row_within r.0 p.0) (row_within r.1 p.1)

@@ -1,5 +1,5 @@
 -- That a desk is sound with a session more.
-use Rattle.wi_scenarios.proofs.Words.{◌≡◌, ℕ, suc, ◌+◌, ◌-◌, ◌*◌, ◌/◌, ◌%◌, ◌<◌, ◌≤◌, Bool, true, false, ◌&&◌, ◌||◌, ◌==◌, List, [], ◌∷◌, ◌++◌, length, None, refl, sym, ap, ◌∙◌, subst, arith, ◌⊎◌, inl, inr, codes, All, list_any, slice_index_or, position_or_len, keys_of, div-lt_iff_lt-mul, mod-lt, eqb-true, le-leb, cases_lt, false≢true, or_cases, get_or_append_left, length-append, All-head, All-tail, get_or-append_seam, any-filter_same, Area, is_within, row_of, column_of, rect_of, rows, columns, Sheet, content_of, has_formula, shown, IsMarking, shows_nothing, has_none, Stored, sheet_size, value_in, is_one_of, Replacement, Scenario, effective, chain, Session, new_session, max_sessions, Roster, vacant_of, SameCells, Entry, Desk, State, state_over, occupied_cells, IsClosed, IsSound, state_of}
+use Rattle.wi_scenarios.proofs.Words.{◌≡◌, ℕ, suc, ◌+◌, ◌-◌, ◌*◌, ◌/◌, ◌%◌, ◌<◌, ◌≤◌, Bool, true, false, ◌||◌, ◌==◌, List, [], ◌∷◌, ◌++◌, length, None, refl, sym, ap, ◌∙◌, subst, arith, ◌⊎◌, inl, inr, codes, All, list_any, slice_index_or, position_or_len, keys_of, div-lt_iff_lt-mul, mod-lt, eqb-true, le-leb, cases_lt, false≢true, or_cases, get_or_append_left, length-append, All-head, All-tail, get_or-append_seam, any-filter_same, Area, is_within, row_of, column_of, rect_of, rows, columns, Sheet, content_of, has_formula, shown, IsMarking, shows_nothing, has_none, Stored, sheet_size, value_in, is_one_of, Replacement, Kept, effective, chain, Session, new_session, max_sessions, Roster, vacant_of, SameCells, Entry, Desk, State, state_over, occupied_cells, IsClosed, IsSound, state_of, and_from}
 
 -- ---- cells of the sheet
 
@@ -23,13 +23,8 @@ whole_has a l =
     let right : column_of a < 16384 = mod-lt a (omega arith) in
     let low : row_of a ≤ row_of (sheet_size - 1) = subst (λ n. row_of a ≤ n) (sym last_row) (omega (arith, up)) in
     let near : column_of a ≤ column_of (sheet_size - 1) = subst (λ n. column_of a ≤ n) (sym last_column) (omega (arith, right)) in
-    all_four _ _ _ _ (le-leb 0 (row_of a) (omega arith)) (le-leb (row_of a) (row_of (sheet_size - 1)) low) (le-leb 0 (column_of a) (omega arith)) (le-leb (column_of a) (column_of (sheet_size - 1)) near)
-  where
-    all_four : (p q r s : Bool) → p ≡ true → q ≡ true → r ≡ true → s ≡ true → ((p && q) && (r && s)) ≡ true
-    all_four true true true s e f g h = h
-    all_four true true false s e f g h = g
-    all_four true false r s e f g h = f
-    all_four false q r s e f g h = e
+    and_from _ _ (and_from _ _ (le-leb 0 (row_of a) (omega arith)) (le-leb (row_of a) (row_of (sheet_size - 1)) low))
+    (and_from _ _ (le-leb 0 (column_of a) (omega arith)) (le-leb (column_of a) (column_of (sheet_size - 1)) near))
 
 -- a cell that isn't among the occupied ones has no content
 pub unoccupied : (s : Sheet) (a : ℕ) → a < sheet_size → is_one_of (occupied_cells s) a ≡ false → content_of s a ≡ None
@@ -94,7 +89,7 @@ closed_as : (marked : Sheet → List ℕ → ℕ → Bool) (s : Sheet) (xs ys : 
 closed_as marked s xs ys e h a c p m = e c ∙ h a c (sym (e a) ∙ p) m
 
 -- what a scenario that is none puts in
-none_put : (xs : List Scenario) → effective xs None ≡ []
+none_put : (xs : List Kept) → effective xs None ≡ []
 unfolding chain
 none_put xs = refl
 
@@ -169,7 +164,7 @@ one_list (p ∷ q ∷ ps) h = absurd (omega (arith, h))
 -- a desk that begins
 pub first_state : (stored : Stored) (d : Desk) → d.scenarios ≡ [] → d.current ≡ 0 → d.sessions.sessions ≡ new_session (codes "main") ∷ [] → d.log ≡ [] → state_of stored d ≡ state_over stored
 first_state stored d none zeroth is empty =
-    ap (λ (xs : List Scenario). record (state_of stored d) { scenarios = xs }) none
+    ap (λ (xs : List Kept). record (state_of stored d) { scenarios = xs }) none
     ∙ ap (λ (xs : List Session). record (state_of stored d) { scenarios = []; sessions = xs }) is
     ∙ ap (λ (n : ℕ). record (state_over stored) { current = n; log = d.log }) zeroth
     ∙ ap (λ (es : List Entry). record (state_over stored) { log = es }) empty

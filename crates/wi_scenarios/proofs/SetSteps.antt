@@ -1,13 +1,9 @@
--- The step of `set`, by what its body finds.
-use Rattle.wi_scenarios.proofs.Words.{◌≡◌, ◌↔◌, ◌<◌, ℕ, Bool, true, false, ◌==◌, List, [], ◌∷◌, length, ◌⊎◌, inl, inr, Some, map, ◌++◌, Result, Ok, Err, if◌then◌else◌, refl, sym, ap, ◌∙◌, subst, arith, list_any, nat_tests, both_ways, Content, ParseFault, cell_area, State, max_area, Answer, parse_refusal, Edit, edit_answer}
-use Rattle.wi_parser.specs.Contents.{IsContent}
-use Rattle.wi_parser.specs.Inner.Answered.{HasFault, IsAnsweredAs, IsFirstFault, faults}
-use Rattle.wi_parser.proofs.ContentsOfTexts.{is_fault, one_content}
+-- The command `set`: its step, by what its body finds, and what a call leaves.
+use Rattle.wi_scenarios.proofs.Words.{◌≡◌, ◌↔◌, ◌<◌, ℕ, Bool, true, false, ◌==◌, List, [], ◌∷◌, length, ◌⊎◌, inl, inr, Some, map, ◌++◌, Result, Ok, Err, if◌then◌else◌, refl, sym, ap, ◌∙◌, subst, arith, list_any, nat_tests, both_ways, Content, ParseFault, cell_area, State, max_area, Answer, parse_refusal, Edit, edit_answer, Command, Set, form, Cell, is_outside, address, cell, Put, Puts, after_edit, Cause, BadCommand, Outside, TooLarge, NoScenario, TooLong, OutOfSheet, NumberRange, TooDeep, Syntax, LeavesSheet, Stale, Full, EditLimit, Holds, lies_outside, is_missing, cells_asked, Does, IsStep, causes, IsFirstOf, IsContent, HasFault, IsAnsweredAs, IsFirstFault, faults, is_fault, one_content, IsPlaced, Option, IsErrAnd, err_from_is_err_and, Area, content_read, is_too_long, ReadsAs, content_is_one, Refusal, may_grow, Serves}
 use Rattle.wi_parser.specs.declared.fault.ParseFault.TheVariants as parse
 use Rattle.wi_scenarios.specs.declared.refusal.Refusal.TheVariants as refusal
-use Rattle.wi_scenarios.specs.Inner.Placed.{IsPlaced}
-use Rattle.wi_scenarios.proofs.CommandWords.{Command, Set, form, Cell, is_outside, address, cell, Put, Puts, after_edit, Cause, BadCommand, Outside, TooLarge, NoScenario, TooLong, OutOfSheet, NumberRange, TooDeep, Syntax, LeavesSheet, Stale, Full, EditLimit, Holds, lies_outside, is_missing, cells_asked, Does, IsStep, causes, IsFirstOf}
-use Rattle.wi_scenarios.proofs.EditSteps.{outside_first, last, edit_step}
+use Rattle.wi_scenarios.proofs.EditLemmas.{outside_first, last, edit_step, edit_grows, same_edit}
+use Rattle.wi_scenarios.proofs.CallLemmas.{MayRefuseFound, serves, serves_as}
 
 -- ---- answers
 
@@ -109,11 +105,7 @@ module _ (s : State) (force : Bool) (c : Cell) (text : List ℕ) (inside : is_ou
 
     same_fault : (e : ParseFault) → HasFault text e ↔ Holds s (cause_of e) set
     same_fault parse.TooLong = (λ h. h, λ h. h)
-    same_fault parse.OutOfSheet = (λ h. h, λ h. h)
-    same_fault parse.NumberRange = (λ h. h, λ h. h)
-    same_fault parse.TooDeep = (λ h. h, λ h. h)
-    same_fault parse.Syntax = (λ h. h, λ h. h)
-    same_fault parse.Memory = (λ h. h, λ h. h)
+    same_fault e = (λ h. h, λ h. h)
 
     first_of : (xs : List ParseFault) (e : ParseFault) → IsFirstFault text xs e → IsFirstOf s set (map cause_of xs ++ LeavesSheet ∷ last) (cause_of e)
     first_of [] e h = absurd h
@@ -123,12 +115,8 @@ module _ (s : State) (force : Bool) (c : Cell) (text : List ℕ) (inside : is_ou
     -- by what the content is read as
     by_content : (r : Result Content ParseFault) → IsAnsweredAs text r → IsStep s set (content_answer s force (address c) r)
     by_content (Ok content) h = putting content h.0 h.1
-    by_content (Err parse.TooLong) h = (TooLong, front TooLong (first_of faults parse.TooLong h), refl)
-    by_content (Err parse.OutOfSheet) h = (OutOfSheet, front OutOfSheet (first_of faults parse.OutOfSheet h), refl)
-    by_content (Err parse.NumberRange) h = (NumberRange, front NumberRange (first_of faults parse.NumberRange h), refl)
-    by_content (Err parse.TooDeep) h = (TooDeep, front TooDeep (first_of faults parse.TooDeep h), refl)
-    by_content (Err parse.Syntax) h = (Syntax, front Syntax (first_of faults parse.Syntax h), refl)
     by_content (Err parse.Memory) h = absurd (is_fault text faults parse.Memory h)
+    by_content (Err e) h = (cause_of e, front (cause_of e) (first_of faults e h), refl)
 
 -- an empty text
 pub set_none : (s : State) (force : Bool) (c : Cell) → IsStep s (Set force c []) (Err refusal.BadCommand)
@@ -154,3 +142,57 @@ set_of s force a [] h r is = set_none s force (cell a)
 set_of s force a (b ∷ bs) h r is =
     let some : false ≡ (length (b ∷ bs) == 0) = grind (arith, nat_tests) in
     subst (λ (none : Bool). IsStep s (Set force (cell a) (b ∷ bs)) (set_answer s force a none r)) some (set_placed s force a b bs h r is)
+
+-- ---- what `set` answers
+
+-- ---- a cell of the sheet
+
+module _ (s : State) (force : Bool) (at : ℕ) (text : List ℕ) (placed : IsPlaced at) where
+  -- the answer that is found
+  abbrev found : Answer
+  found = set_answer s force at (length text == 0) (content_read text)
+
+  set_found : IsStep s (Set force (cell at) text) found
+  set_found = set_of s force at text placed (content_read text) ((content_is_one text (content_read text)).1 refl)
+
+  -- an empty text
+  pub set_empty : (length text == 0) ≡ true → IsStep s (Set force (cell at) text) (Err refusal.BadCommand)
+  set_empty e = subst (IsStep s (Set force (cell at) text)) (ap (λ (none : Bool). set_answer s force at none (content_read text)) e) set_found
+
+  -- one that isn't
+  module _ (some : (length text == 0) ≡ false) where
+    found_is : (r : Result Content ParseFault) → content_read text ≡ r → found ≡ content_answer s force at r
+    found_is r e =
+        ap (λ (none : Bool). set_answer s force at none (content_read text)) some ∙ ap (content_answer s force at) e
+
+    put_grows : (r : Result Content ParseFault) → is_too_long r ≡ false → may_grow (content_answer s force at r) ≡ true
+    put_grows (Ok content) h = edit_grows s force (set_edit at content)
+    put_grows (Err parse.TooLong) h = cc
+    put_grows (Err e) h = refl
+
+    at_fault : (e : Refusal) (fault : ParseFault) → e ≡ parse_refusal fault → ReadsAs (content_read text) (Err fault) → MayRefuseFound e found
+    at_fault e parse.Memory same h =
+        subst (λ (x : Refusal). MayRefuseFound x found) (sym same) (ap may_grow (found_is (content_read text) refl) ∙ put_grows (content_read text) h)
+    at_fault e fault same h = subst (λ (x : Refusal). MayRefuseFound x found) (sym same) (found_is (Err fault) h)
+
+    -- it can't be read
+    pub set_refused : (r : Result (Unit {0}) Refusal) (fault : ParseFault) → IsErrAnd r (λ e. e ≡ parse_refusal fault) → ReadsAs (content_read text) (Err fault)
+        → Serves (IsStep s (Set force (cell at) text)) r s s []
+    set_refused r fault k h =
+        let p = err_from_is_err_and r k in
+        subst (λ (x : Result (Unit {0}) Refusal). Serves (IsStep s (Set force (cell at) text)) x s s []) (sym p.1)
+        (serves (IsStep s (Set force (cell at) text)) found set_found (Err p.0) s s [] (at_fault p.0 fault p.2 h, refl, refl))
+
+    -- it is read, and put into the cell
+    pub set_edited : (r : Result (Unit {0}) Refusal) (t : State) (content : Content) (e : Edit) → content_read text ≡ Ok content → e ≡ set_edit at content
+        → Serves (λ a. edit_answer s force e ≡ a) r s t [] → Serves (IsStep s (Set force (cell at) text)) r s t []
+    set_edited r t content e h same =
+        serves_as (λ a. edit_answer s force e ≡ a) (IsStep s (Set force (cell at) text))
+        (λ a k. subst (IsStep s (Set force (cell at) text)) (found_is (Ok content) h ∙ ap (edit_answer s force) (sym same) ∙ k) set_found) r s t []
+
+-- ---- the edit
+
+pub one_cell_edit : (at : ℕ) (content : Content) (area : Area) (named : List Area) (contents : List (ℕ × Option Content)) → area ≡ cell_area at → named ≡ area ∷ [] → contents ≡ (at, Some content) ∷ [] →
+    ◌≡◌ {A = Edit} (record { named = named; contents = contents }) (set_edit at content)
+one_cell_edit at content area named contents a n c =
+    same_edit named (cell_area at ∷ []) contents ((at, Some content) ∷ []) (n ∙ ap (λ (x : Area). x ∷ []) a) c

@@ -1,11 +1,8 @@
 -- When an edit is refused for a stale cell.
-use Rattle.wi_scenarios.proofs.Words.{◌≡◌, ◌≢◌, ◌∙◌, ℕ, zero, suc, ◌+◌, ◌<◌, ◌≤◌, ◌⊎◌, inl, inr, Bool, true, false, ◌&&◌, List, [], ◌∷◌, ◌++◌, map, max, Option, Some, None, Ok, Err, refl, sym, ap, subst, arith, and_parts, and_from, both_ways, cases_eq, cases_lt, or_cases, false≢true, none-some, Area, is_within, within_between, Entry, is_within_one, first_stale, IsFirst, entries_in, is_wanted_of_others, only_first, stale_is_first, Refusal, State, Answer, Event, MayHappen, MayFollow, state_after, IsCoherent, is_changes, named_by, edits_since, unseen, is_newer, IsFirstNewer, counts_before, is_refused_before, StaleIsNewer, ForcedIsNotStale}
-use Rattle.std.specs.Prelude.{◌↔◌}
-use Rattle.std.specs.List.{list_all}
+use Rattle.wi_scenarios.proofs.Words.{◌≡◌, ◌≢◌, ◌∙◌, ℕ, zero, suc, ◌+◌, ◌<◌, ◌≤◌, ◌⊎◌, inl, inr, Bool, true, false, ◌&&◌, List, [], ◌∷◌, ◌++◌, map, max, Option, Some, None, Ok, Err, refl, sym, ap, subst, arith, and_parts, and_from, both_ways, cases_eq, cases_lt, or_cases, false≢true, none-some, Area, is_within, within_between, Entry, is_within_one, first_stale, IsFirst, entries_in, is_wanted_of_others, only_first, stale_is_first, Refusal, State, Answer, Event, MayHappen, MayFollow, state_after, IsCoherent, is_changes, named_by, edits_since, unseen, is_newer, IsFirstNewer, counts_before, is_refused_before, StaleIsNewer, ForcedIsNotStale, Command, named, is_forced, Cause, BadLine, BadCommand, CutShort, Outside, TooLarge, NoScenario, InUse, TooMany, BadField, TooLong, OutOfSheet, NumberRange, TooDeep, Syntax, LeavesSheet, Stale, Loop, Full, EditLimit, Holds, stale_cell, Tells, IsStep, causes, IsFirstOf, ◌↔◌, list_all}
 use Rattle.wi_edit_log.specs.declared.edit.Edit.{Edit}
 use Rattle.wi_scenarios.specs.declared.refusal.Refusal.TheVariants as refusal
-use Rattle.wi_scenarios.proofs.CommandWords.{Command, named, is_forced, Cause, BadLine, BadCommand, CutShort, Outside, TooLarge, NoScenario, InUse, TooMany, BadField, TooLong, OutOfSheet, NumberRange, TooDeep, Syntax, LeavesSheet, Stale, Loop, Full, EditLimit, Holds, stale_cell, Tells, IsStep, causes, IsFirstOf}
-use Rattle.wi_scenarios.proofs.FirstCause.{first_holds}
+use Rattle.wi_scenarios.proofs.CauseTests.{first_holds}
 use Rattle.wi_scenarios.proofs.EventLemmas.{TellsAndLogs, log_grows}
 use Rattle.wi_scenarios.proofs.RunLemmas.{tells_and_logs}
 

@@ -50,7 +50,7 @@ pub fn records_tell_lists()
 {}
 
 /// What each accepted command leaves. No command changes a session that isn't current.
-#[tactic(auto, using(crate::proofs::OutcomeLemmas::leaves, crate::proofs::RunLemmas::keeps_apart))]
+#[tactic(auto, using(crate::proofs::RunLemmas::leaves, crate::proofs::RunLemmas::keeps_apart))]
 pub fn sessions_keep_apart()
     ensures leaves { (s t : State) (c : Command) (records : List ℕ)
         → IsStep s c (Ok (t, records)) → Leaves c s t }

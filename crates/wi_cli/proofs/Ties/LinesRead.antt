@@ -1,11 +1,42 @@
 -- Lines have the commands that they are read as.
-use Rattle.wi_cli.proofs.Vocabulary.{◌≡◌, ℕ, suc, zero, ◌<◌, Bool, true, false, not, ◌==◌, ◌||◌, nat_lt, cond, List, [], ◌∷◌, ◌++◌, length, take, filter, filter_map, Option, Some, None, ◌⊎◌, inl, inr, if◌then◌else◌, refl, sym, ap, ap₂, ◌∙◌, subst, arith, list_all, cons_option, byte, is_utf8, nat_tests, IsUtf8-from_is_utf8, is_utf8-from_IsUtf8, or_parts, not-false, ltb-false, le-ltb, both_ways, nil_from_length, or-true, or-false, raw_lines, onto_first, without_lf, is_whole, max_line, is_space, Bytes, is_all_spaces, CsvLine, csv_line, Block, lines_of, blocks, is_complete, is_comment, text_command, line_command, command_with, block_command, spelled_command, whole_lines, Cell, IsWritten, Command, Csv, Unknown, Unreadable, form, line_text, IsWithin, IsGood, Asks, is_passed_over, IsCommand, asked, line_block, Splits, none, a_line, cut_short, spelled_cell, blocks_that_count, commands_of, AreCommands}
-use Rattle.std.proofs.Common.{option_to_list}
+use Rattle.wi_cli.proofs.Vocabulary.{◌≡◌, ℕ, ◌+◌, ◌-◌, Bool, true, false, ◌==◌, List, [], ◌∷◌, ◌++◌, length, refl, sym, subst, arith, nat_tests, Block, blocks_from, blocks, begun, Bytes, Splits, none, a_line, cut_short, asked, line_block, length-append, append-nil, append_assoc, suc, zero, ◌<◌, not, ◌||◌, nat_lt, cond, take, filter, filter_map, Option, Some, None, ◌⊎◌, inl, inr, if◌then◌else◌, ap, ap₂, ◌∙◌, list_all, cons_option, byte, is_utf8, IsUtf8-from_is_utf8, is_utf8-from_IsUtf8, or_parts, not-false, ltb-false, le-ltb, both_ways, nil_from_length, or-true, or-false, raw_lines, onto_first, without_lf, is_whole, max_line, is_space, is_all_spaces, CsvLine, csv_line, lines_of, is_complete, is_comment, text_command, line_command, command_with, block_command, spelled_command, whole_lines, Cell, IsWritten, Command, Csv, Unknown, Unreadable, form, line_text, IsWithin, IsGood, Asks, is_passed_over, IsCommand, spelled_cell, blocks_that_count, commands_of, AreCommands, option_to_list, State, max_lines, all_commands, complete_commands, limited, Writes}
 use Rattle.wi_cli.specs.Script.{none as no_commands, a_line as line_with, cut_short as line_cut}
 use Rattle.wi_cli.specs.Laws.{Takes}
-use Rattle.wi_cli.proofs.Ties.CsvLines.{IsCsvLine, AsksOrNot, it_asks, it_asks_none, asks_or_not, it_is_read, no_asks, takes, asks}
-use Rattle.wi_cli.proofs.Ties.Texts.{is_plain, said, Reads, spells, spells_none, reads}
-use Rattle.wi_cli.proofs.Ties.Splitting.{blocks_split}
+use Rattle.wi_cli.proofs.Ties.Texts.{IsCsvLine, AsksOrNot, it_asks, it_asks_none, asks_or_not, it_is_read, no_asks, takes, asks, is_plain, said, Reads, spells, spells_none, reads}
+
+same_block : (line : Bytes) (taken : List Bytes) (m : ℕ) → m ≡ asked line - length taken → ◌≡◌ {A = Block} (record { line = line; data_lines = taken; missing = m }) (line_block line taken)
+same_block line taken m e = cc
+
+-- at the end of the lines
+ends : (line : Bytes) (taken : List Bytes) (m : ℕ) (b : Bool) → (m == 0) ≡ b → asked line ≡ length taken + m → Splits (line ∷ taken) (line_block line taken ∷ [])
+ends line taken m true z e =
+    subst (λ (ls : List Bytes). Splits (line ∷ ls) (line_block line taken ∷ [])) (append-nil taken)
+    (a_line line taken [] [] (grind (arith, nat_tests)) none)
+ends line taken m false z e = cut_short line taken (grind (arith, nat_tests))
+
+from : (ls : List Bytes) (line : Bytes) (taken : List Bytes) (m : ℕ) → asked line ≡ length taken + m → Splits (line ∷ taken ++ ls) (blocks_from (record { line = line; data_lines = taken; missing = m }) ls)
+from [] line taken m e =
+    let same = same_block line taken m (omega (arith, e)) in
+    let split = ends line taken m (m == 0) refl e in
+    subst (λ (x : Block). Splits (line ∷ taken ++ []) (x ∷ [])) (sym same) (subst (λ (ls : List Bytes). Splits (line ∷ ls) (line_block line taken ∷ [])) (sym (append-nil taken)) split)
+from (l ∷ ls) line taken m e = by (m == 0) refl (from ls l [] (asked l) (omega arith)) (λ k f. from ls line (taken ++ l ∷ []) k f)
+  where
+    by : (b : Bool) → (m == 0) ≡ b → Splits (l ∷ [] ++ ls) (blocks_from (begun l) ls)
+        → ((k : ℕ) → asked line ≡ length (taken ++ l ∷ []) + k → Splits (line ∷ (taken ++ l ∷ []) ++ ls) (blocks_from (record { line = line; data_lines = taken ++ l ∷ []; missing = k }) ls))
+        → Splits (line ∷ taken ++ l ∷ ls) (blocks_from (record { line = line; data_lines = taken; missing = m }) (l ∷ ls))
+    by true z next more =
+        let same = same_block line taken m (omega (arith, e)) in
+        rw z (subst (λ (x : Block). Splits (line ∷ taken ++ l ∷ ls) (x ∷ blocks_from (begun l) ls)) (sym same) (a_line line taken (l ∷ ls) (blocks_from (begun l) ls) (grind (arith, nat_tests)) next))
+    by false z next more =
+        let longer : length (taken ++ l ∷ []) ≡ length taken + 1 = length-append taken (l ∷ []) in
+        let some : asked line ≡ length (taken ++ l ∷ []) + (m - 1) = grind (arith, nat_tests) in
+        rw z (subst (λ (xs : List Bytes). Splits (line ∷ xs) (blocks_from (record { line = line; data_lines = taken ++ l ∷ []; missing = m - 1 }) ls)) (append_assoc taken (l ∷ []) ls) (more (m - 1) some))
+
+pub blocks_split : (lines : List Bytes) → Splits lines (blocks lines)
+blocks_split [] = none
+blocks_split (l ∷ ls) = from ls l [] (asked l) (omega arith)
+
+-- ---- lines have the commands that they are read as
 
 -- ---- a text
 
@@ -39,9 +70,6 @@ good_is line h =
     let long : nat_lt max_line (length (without_lf line)) ≡ false = le-ltb _ _ h.0 in
     let text : is_utf8 (line_text line) ≡ true = is_utf8-from_IsUtf8 (line_text line) h.1 in
     ap₂ ◌||◌ long (ap not text)
-
-not_good : (line : Bytes) → (nat_lt max_line (length (without_lf line)) || not (is_utf8 (line_text line))) ≡ true → IsGood line → ⊥
-not_good line e h = both_ways _ (good_is line h) e
 
 as_command : (line : Bytes) (taken : List Bytes) (c : Command) → is_plain c ≡ true → IsGood line → IsWritten (line_text line) (form c) → taken ≡ [] → IsCommand line taken (Some c)
 as_command line taken (Csv force at n lines) p g h e = absurd (both_ways false refl p)
@@ -89,7 +117,7 @@ module _ (line : Bytes) (taken : List Bytes) where
     text_has g p e (spells_none unread) = is_so (Some Unknown) (g, p, no_form g p unread) (e ∙ ap (λ (x : Command). Some x) unread)
 
     by_line : (b : Bool) → (nat_lt max_line (length (without_lf line)) || not (is_utf8 (line_text line))) ≡ b → (p : Bool) → is_passed_over (line_text line) ≡ p → HasCommand
-    by_line true e p f = is_so (Some Unreadable) (not_good line e) (plain_line line taken plain ∙ line_is line true e)
+    by_line true e p f = is_so (Some Unreadable) (λ h. both_ways _ (good_is line h) e) (plain_line line taken plain ∙ line_is line true e)
     by_line false e true f = is_so None (good line e, f) (plain_line line taken plain ∙ line_is line false e ∙ text_is (line_text line) true f)
     by_line false e false f = text_has (good line e) f (plain_line line taken plain ∙ line_is line false e ∙ text_is (line_text line) false f) (reads (line_text line))
 
@@ -202,16 +230,40 @@ front_whole (suc n) (x ∷ []) h l = absurd (omega (arith, l))
 front_whole (suc n) (x ∷ y ∷ ls) h l =
     ap (λ (b : Bool). cond b (x ∷ whole_lines (take n (y ∷ ls))) []) h.0 ∙ ap (λ (z : List Bytes). x ∷ z) (front_whole n (y ∷ ls) h.1 (omega (arith, l)))
 
-pub first_whole : (n : ℕ) (bytes : Bytes) → n < length (raw_lines bytes) → whole_lines (take n (raw_lines bytes)) ≡ take n (raw_lines bytes)
-first_whole n bytes l = front_whole n (raw_lines bytes) (raw_whole bytes) l
-
-pub raw_lines_whole : (bytes : Bytes) → whole_lines (raw_lines bytes) ≡ filter is_whole (raw_lines bytes)
-raw_lines_whole bytes = whole_is (raw_lines bytes) (raw_whole bytes)
-
-pub taken_whole : (n : ℕ) (bytes : Bytes) → whole_lines (take n (raw_lines bytes)) ≡ filter is_whole (take n (raw_lines bytes))
-taken_whole n bytes = whole_is (take n (raw_lines bytes)) (take_whole n (raw_lines bytes) (raw_whole bytes))
-
 -- ---- the commands of a script
 
 pub has_commands : (ended : Bool) (lines : List Bytes) → AreCommands ended lines (commands_of ended lines)
 has_commands ended lines = has_blocks ended lines (blocks lines) (blocks_split lines)
+
+-- ---- the commands of a script, as the outcome of a run tells them
+
+abbrev pub Answered : Bool → Bool → List Bytes → State → Bytes → State → Type 0
+Answered ended fails lines s out t = (cs : List Command) × AreCommands ended lines cs × Writes fails s cs out t
+
+-- ---- the commands of a script
+
+pub all_is : (input : Bytes) → all_commands input ≡ commands_of true (raw_lines input)
+unfolding all_commands
+all_is input = refl
+
+complete_is : (ls lines : List Bytes) → whole_lines ls ≡ lines → complete_commands ls ≡ commands_of false lines
+unfolding complete_commands
+complete_is ls lines e = ap (commands_of false) e
+
+limited_is : (input : Bytes) → limited (raw_lines input) ≡ take max_lines (raw_lines input)
+unfolding limited
+limited_is input = refl
+
+pub read_is : (input : Bytes) → complete_commands (raw_lines input) ≡ commands_of false (filter is_whole (raw_lines input))
+read_is input = complete_is (raw_lines input) (filter is_whole (raw_lines input)) (whole_is (raw_lines input) (raw_whole input))
+
+pub many_is : (input : Bytes) → max_lines < length (raw_lines input) → complete_commands (limited (raw_lines input)) ≡ commands_of false (take max_lines (raw_lines input))
+many_is input h = ap complete_commands (limited_is input) ∙ complete_is (take max_lines (raw_lines input)) (take max_lines (raw_lines input)) (front_whole max_lines (raw_lines input) (raw_whole input) h)
+
+pub cut_is : (input : Bytes) → complete_commands (limited (raw_lines input)) ≡ commands_of false (filter is_whole (take max_lines (raw_lines input)))
+cut_is input = ap complete_commands (limited_is input) ∙ complete_is (take max_lines (raw_lines input)) (filter is_whole (take max_lines (raw_lines input))) (whole_is (take max_lines (raw_lines input)) (take_whole max_lines (raw_lines input) (raw_whole input)))
+
+-- ---- what they write
+
+pub answered : (ended fails : Bool) (lines : List Bytes) (cs : List Command) (same : cs ≡ commands_of ended lines) (s : State) (out : Bytes) (t : State) → Writes fails s cs out t → Answered ended fails lines s out t
+answered ended fails lines cs same s out t w = (cs, subst (λ (ds : List Command). AreCommands ended lines ds) (sym same) (has_commands ended lines), w)

@@ -2,9 +2,8 @@
 use Rattle.wi_cli.proofs.Vocabulary.{◌≡◌, ℕ, ◌-◌, ◌<◌, Bool, true, false, not, ◌==◌, ◌||◌, nat_lt, cond, List, [], ◌∷◌, ◌++◌, length, filter, filter_map, ◌⊎◌, inl, inr, Option, Some, None, if◌then◌else◌, refl, sym, ap, ap₂, ◌∙◌, subst, arith, codes, append_assoc, append-nil, cons_option, is_utf8, nat_tests, IsUtf8-from_is_utf8, is_utf8-from_IsUtf8, le-ltb, both_ways, without_lf, max_line, Bytes, csv_text, Block, lines_of, blocks, blocks_from, is_complete, block_command, spelled_command, Cell, IsWritten, Command, Csv, Unknown, Unreadable, form, line_text, IsGood, Asks, is_passed_over, IsCommand, asked, line_block, blocks_that_count, commands_of, AreCommands}
 use Rattle.wi_cli.specs.Script.{none as no_commands, a_line as line_with, cut_short as line_cut}
 use Rattle.wi_cli.specs.Laws.{Takes}
-use Rattle.wi_cli.proofs.Ties.CsvLines.{AsksOrNot, it_asks, it_asks_none, asks_or_not, asked_is, short_line, it_is_read, TextReads, text_or}
+use Rattle.wi_cli.proofs.Ties.Texts.{AsksOrNot, it_asks, it_asks_none, asks_or_not, asked_is, short_line, it_is_read, TextReads, text_or, is_plain, said, not_passed, Reads, spells, spells_none, reads}
 use Rattle.wi_cli.proofs.Ties.LinesRead.{plain_line, csv_line_is, line_is, text_is, good, good_is, onto, alone, complete, not_complete, kept_one}
-use Rattle.wi_cli.proofs.Ties.Texts.{is_plain, said, not_passed, Reads, spells, spells_none, reads}
 
 -- ---- how many data lines
 

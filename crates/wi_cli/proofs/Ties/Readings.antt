@@ -1,17 +1,10 @@
 -- As what the operands behind a name are read, and the command that they spell.
-use Rattle.wi_cli.proofs.Vocabulary.{◌≡◌, Bool, Err, None, Ok, Option, Result, Some, [], ap, ap₂, arith, false, if◌then◌else◌, inl, inr, length, option_map, refl, subst, sym, true, ℕ, ◌==◌, ◌||◌, ◌∙◌, ◌∷◌, or-false, nat_tests, list_any, result_err, fill_of, A_NAME, END, MAYBE, as_form, base_form, changes_form, clear_form, compare_form, drop_form, export_form, fill_form, formula_form, scenario_form, set_form, show_form, table_form, use_form, Reading, is_all_spaces, line_fault, of_name, of_operand, read_any, read_any_area, read_by, read_side, spelled_cell, spelled_rect, IsRead, IsReadAs, IsReading, table_of_one, table_of_two, Bytes, after_word, first_word, lacks, BadCommand, BadLine, lies_outside, As, Base, Changes, Clear, Command, Compare, Drop, Export, Fill, Formula, Scenario, Set, Show, Unknown, Unreadable, Use, Cell, CornerCells, is_outside, IsStep, State, Refusal, Area, is_column, is_row, read_address, read_rect, read_name, AddressFault, Shape, made, spelled, at_end, both, form, address, area, Values, AND, A_CELL, A_RECT, name_or_none, only_name, table_behind, subst₂}
+use Rattle.wi_cli.proofs.Vocabulary.{◌≡◌, Bool, Err, None, Ok, Option, Result, Some, [], ap, ap₂, arith, false, if◌then◌else◌, inl, inr, length, option_map, refl, subst, sym, true, ℕ, ◌==◌, ◌||◌, ◌∙◌, ◌∷◌, or-false, nat_tests, list_any, result_err, fill_of, A_NAME, END, MAYBE, as_form, base_form, changes_form, clear_form, compare_form, drop_form, export_form, fill_form, formula_form, scenario_form, set_form, show_form, table_form, use_form, Reading, is_all_spaces, line_fault, of_name, of_operand, read_any, read_any_area, read_by, read_side, spelled_cell, spelled_rect, IsRead, IsReadAs, IsReading, table_of_one, table_of_two, Bytes, after_word, first_word, lacks, BadCommand, BadLine, lies_outside, As, Base, Changes, Clear, Command, Compare, Drop, Export, Fill, Formula, Scenario, Set, Show, Unknown, Unreadable, Use, Cell, CornerCells, is_outside, IsStep, State, Refusal, Area, is_column, is_row, read_address, read_rect, read_name, AddressFault, Shape, made, spelled, at_end, both, form, address, area, Values, AND, A_CELL, A_RECT, name_or_none, only_name, table_behind, subst₂, cell, outside_first, set_none, clear_outside, clear_step, fill_outside, fill_out, show_step, export_step, compare_step}
 use Rattle.wi_scenarios.specs.declared.refusal.Refusal.TheVariants as refusal
-use Rattle.wi_scenarios.specs.Commands.Operands.{cell, corners}
+use Rattle.wi_scenarios.specs.Commands.Operands.{corners}
 use Rattle.wi_cli.specs.declared.command.Command.{Command as ReadCommand}
-use Rattle.wi_scenarios.proofs.EditSteps.{outside_first}
-use Rattle.wi_scenarios.proofs.SetSteps.{set_none}
-use Rattle.wi_scenarios.proofs.ClearSteps.{clear_outside, clear_step}
-use Rattle.wi_scenarios.proofs.FillSteps.{fill_outside, fill_out}
-use Rattle.wi_scenarios.proofs.LookSteps.{show_step, export_step, compare_step}
-use Rattle.wi_cli.proofs.Ties.Cells.{lies_out, read_cell, read_area}
-use Rattle.wi_cli.proofs.Ties.Addresses.{same_addr}
-use Rattle.wi_cli.proofs.Ties.Rects.{same_rect}
-use Rattle.wi_cli.proofs.Ties.Tables.{is_large, worst, has_shape, faults, faults_behind, table_reading, table_as, table_read}
+use Rattle.wi_cli.proofs.Ties.Operands.{lies_out, read_cell, read_area, is_large, worst, has_shape, faults, faults_behind, table_reading, table_as, table_read}
+use Rattle.wi_cli.proofs.Ties.Addresses.{same_addr, same_rect}
 
 pub unknown : IsReadAs Unknown (Err refusal.BadCommand)
 unknown s = (BadCommand, inr (λ h. h, inl (tt, refl)), refl)
@@ -46,10 +39,9 @@ of_read f x again y false outside within = within refl
 module _ (f : CornerCells → Command) (is : (r : CornerCells) → IsReadAs (f r) (of_operand (read_area r) (λ a. Ok (f (corners a))))) where
   rect_end : (b : Bool) (o : Option CornerCells)
       → IsReadAs (made (both o (ended b)) (λ v. f v.0)) (if b then of_operand (read_any_area o) (λ a. Ok (f (corners a))) else Err refusal.BadCommand)
-  rect_end false None = unknown
-  rect_end false (Some r) = unknown
-  rect_end true None = unknown
   rect_end true (Some r) = is r
+  rect_end false (Some r) = unknown
+  rect_end b o = unknown
 
   abbrev rect_text : Bytes → Reading
   rect_text text = at_end (after_word text) (of_operand (read_rect (first_word text)) (λ a. Ok (f (corners a))))
@@ -89,10 +81,9 @@ formula_so text r k =
     (by (is_all_spaces (after_word text)) (spelled_cell (first_word text)))) k
   where
     by : (b : Bool) (o : Option Cell) → IsReadAs (made (both o (ended b)) (λ v. Formula v.0)) (if b then of_operand (read_any o) (λ at. Ok (Formula (cell at))) else Err refusal.BadCommand)
-    by false None = unknown
     by false (Some c) = unknown
-    by true None = unknown
     by true (Some c) = of_read (λ c. Formula c) c cell (address c) (is_outside c) (λ o s. outside_first s (Formula c) (λ h. h) (λ h. h) (λ h. h) (or-false _ ∙ o)) (λ o. (or-false _ ∙ o, refl))
+    by b o = unknown
 
 set_out : (force b : Bool) (c : Cell) (text : Bytes) → is_outside c ≡ b → list_any lies_outside (form (Set force c text)) ≡ b
 set_out true b c text e = or-false _ ∙ e
@@ -131,20 +122,18 @@ scenario_so text r k =
     (sym ((same_addr (first_word (after_word text))).read)) (by (after_word (after_word text)) (read_name (first_word text)) (spelled_cell (first_word (after_word text))))) k
   where
     by : (t : Bytes) (n : Option Bytes) (o : Option Cell) → IsReadAs (made (both n (both o (Some t))) (λ v. Scenario v.0 v.1.0 v.1.1)) (of_name n (λ name. of_operand (read_any o) (λ at. Ok (Scenario name (cell at) t))))
-    by t None o = unknown
-    by t (Some name) None = unknown
     by t (Some name) (Some c) =
         of_read (λ c. Scenario name c t) c cell (address c) (is_outside c) (λ o s. outside_first s (Scenario name c t) (λ h. h) (λ h. h) (λ h. h) (or-false _ ∙ o)) (λ o. (or-false _ ∙ o, refl))
+    by t n o = unknown
 
 -- ---- names
 
 -- one name, and no word behind it
 name_end : (f : Bytes → Command) → ((n : Bytes) → IsReadAs (f n) (Ok (f n))) → (b : Bool) (o : Option Bytes)
     → IsReadAs (made (both o (ended b)) (λ v. f v.0)) (of_name (if b then o else None) (λ n. Ok (f n)))
-name_end f is false None = unknown
-name_end f is false (Some n) = unknown
-name_end f is true None = unknown
 name_end f is true (Some n) = is n
+name_end f is false (Some n) = unknown
+name_end f is b o = unknown
 
 name_so : (f : Bytes → Command) → ((n : Bytes) → IsReadAs (f n) (Ok (f n))) → (text : Bytes) (r : Read) → IsReading (of_name (only_name text) (λ n. Ok (f n))) r
     → IsRead (made (both (read_name (first_word text)) (ended (is_all_spaces (after_word text)))) (λ v. f v.0)) r
@@ -178,10 +167,9 @@ use_so text r k =
   where
     by : (b c : Bool) (o : Option Bytes) → IsReadAs (made (may b c o) use_form.make) (of_name (may_read b c o) (λ name. Ok (Use name)))
     by true c o = (refl, refl)
-    by false false None = unknown
-    by false false (Some n) = unknown
-    by false true None = unknown
     by false true (Some n) = (refl, refl)
+    by false false (Some n) = unknown
+    by b c o = unknown
 
 abbrev pub base_text : Bytes → Reading
 base_text text = of_name (read_name (first_word text)) (λ name. of_name (name_or_none (after_word text)) (λ other. Ok (Base name other)))
@@ -193,12 +181,10 @@ base_so text r k =
     (by (read_name (first_word text)) (is_all_spaces (after_word text)) (is_all_spaces (after_word (after_word text))) (read_name (first_word (after_word text)))) k
   where
     by : (p : Option Bytes) (b c : Bool) (o : Option Bytes) → IsReadAs (made (both p (may b c o)) base_form.make) (of_name p (λ name. of_name (may_read b c o) (λ other. Ok (Base name other))))
-    by None b c o = unknown
     by (Some n) true c o = (refl, refl)
-    by (Some n) false false None = unknown
-    by (Some n) false false (Some m) = unknown
-    by (Some n) false true None = unknown
     by (Some n) false true (Some m) = (refl, refl)
+    by (Some n) false false (Some m) = unknown
+    by p b c o = unknown
 
 abbrev pub changes_text : Bytes → Reading
 changes_text text = at_end text (Ok Changes)
@@ -234,15 +220,10 @@ compare_so text r k =
     by : (b : Bool) (p q : Option (Option Bytes)) (o : Option CornerCells)
         → IsReadAs (made (both p (both q (both o (ended b)))) (λ v. Compare v.0 v.1.0 v.1.1.0))
         (if b then of_name p (λ s. of_name q (λ t. of_operand (read_any_area o) (λ a. Ok (Compare s t (corners a))))) else Err refusal.BadCommand)
-    by true None q o = unknown
-    by false None q o = unknown
-    by true (Some s) None o = unknown
-    by false (Some s) None o = unknown
-    by false (Some s) (Some t) None = unknown
     by false (Some s) (Some t) (Some r) = unknown
-    by true (Some s) (Some t) None = unknown
     by true (Some s) (Some t) (Some r) =
-        of_read (λ r. Compare s t r) r corners (area r) (lies_out r) (λ o u. compare_step u s t r true (is_large r) (lacks u.scenarios s || lacks u.scenarios t) o refl refl) (λ o. (or-false _ ∙ o, refl))
+        of_read (λ r. Compare s t r) r corners (area r) (lies_out r) (λ o u. compare_step u r true (is_large r) o refl s t (lacks u.scenarios s || lacks u.scenarios t) refl) (λ o. (or-false _ ∙ o, refl))
+    by b p q o = unknown
 
 abbrev pub fill_text : Bool → Bytes → Reading
 fill_text force text = at_end (after_word (after_word text)) (fill_of force (read_address (first_word text)) (read_rect (first_word (after_word text))))
@@ -266,12 +247,10 @@ fill_so force text r k =
     no_area a false = unknown
 
     by : (b : Bool) (o : Option Cell) (p : Option CornerCells) → IsReadAs (made (both o (both p (ended b))) (λ v. Fill force v.0 v.1.0)) (if b then fill_of force (read_any o) (read_any_area p) else Err refusal.BadCommand)
-    by false None p = unknown
-    by false (Some c) None = unknown
-    by false (Some c) (Some r) = unknown
-    by true None p = unknown
     by true (Some c) None = no_area (address c) (is_outside c)
     by true (Some c) (Some r) = inside c r (is_outside c) (lies_out r) refl refl
+    by false (Some c) (Some r) = unknown
+    by b o p = unknown
 
 -- ---- table
 
@@ -286,10 +265,8 @@ abbrev table_of : Option Cell → Option Cell → Option CornerCells → Option 
 table_of f r xs y = made (both f (both r (both xs y))) table_form.make
 
 none_of_it : (f r : Option Cell) (xs : Option CornerCells) → table_of f r xs None ≡ Unknown
-none_of_it None r xs = refl
-none_of_it (Some f) None xs = refl
-none_of_it (Some f) (Some r) None = refl
 none_of_it (Some f) (Some r) (Some xs) = refl
+none_of_it f r xs = refl
 
 -- a second input and its row, as words and as read
 abbrev Words : Type 0

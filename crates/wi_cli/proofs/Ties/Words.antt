@@ -1,8 +1,111 @@
--- Words one after another, by what they spell.
-use Rattle.wi_cli.proofs.Vocabulary.{◌≡◌, Bool, true, false, List, [], ◌∷◌, Option, Some, None, if◌then◌else◌, option_map, refl, sym, ap, ap₂, ◌∙◌, first_word, after_word, Bytes, is_all_spaces, both, spelled_cell, spelled_rect, Kind, A_CELL, A_RECT, A_NAME, A_SESSION, A_SIDE, Words, END, TEXT, AND, MAYBE, Value, Values, read_word, read_words, Operand, ADDR, RECT, NAME, SESSION, SIDE, CONTENT, IsSpelled, IsWritten, subst}
-use Rattle.wi_cli.proofs.Ties.Addresses.{same_addr}
-use Rattle.wi_cli.proofs.Ties.Rects.{same_rect}
-use Rattle.wi_cli.proofs.Ties.OperandsRead.{none_some, same_some, name_read, spells_name, side_read, spells_side, no_word}
+-- Words one after another, what they are read as, and what they spell.
+use Rattle.wi_cli.proofs.Vocabulary.{◌≡◌, ℕ, suc, ◌≤◌, ◌+◌, Bool, true, false, ◌&&◌, not, nat_lt, nat_le, cond, [], ◌∷◌, length, take, ◌⊎◌, inl, inr, Option, Some, None, option_map, if◌then◌else◌, refl, sym, ap, ◌∙◌, subst, arith, codes, bytes_eq, prefix_len, before_first, after_first, all_ascii_digits, digits_value, nat_tests, bytes_eq-Decides, le-leb, leb-true, and_parts, both_ways, is_name, read_name, is_space, skip_spaces, first_word, after_word, Bytes, read_side, is_all_spaces, read_lines, IsSpelled, SIDE, LINES, List, ap₂, both, spelled_cell, spelled_rect, Kind, A_CELL, A_RECT, A_NAME, A_SESSION, A_SIDE, Words, END, TEXT, AND, MAYBE, Value, Values, read_word, read_words, Operand, ADDR, RECT, NAME, SESSION, CONTENT, IsWritten, none-some, same_Some, and_from}
+use Rattle.wi_cli.proofs.Ties.Addresses.{same_addr, same_rect}
+
+-- ---- options
+
+pub is_word : (w name : Bytes) → bytes_eq w name ≡ true → w ≡ name
+is_word w name e = (bytes_eq-Decides w name).0 e
+
+-- ---- names
+
+pub name_read : (word name : Bytes) → word ≡ name → is_name name ≡ true → read_name word ≡ Some name
+name_read word name e h = ap read_name e ∙ ap (λ (b : Bool). if b then Some name else None) h
+
+pub spells_name : (word name : Bytes) → read_name word ≡ Some name → (word ≡ name) × (is_name name ≡ true)
+spells_name word name e = by (is_name word) refl
+  where
+    by : (b : Bool) → is_name word ≡ b → (word ≡ name) × (is_name name ≡ true)
+    by true f =
+        let same : word ≡ name = same_Some word name (sym (ap (λ (b : Bool). if b then Some word else None) f) ∙ e) in
+        (same, ap is_name (sym same) ∙ f)
+    by false f = absurd (none-some name (sym (ap (λ (b : Bool). if b then Some word else None) f) ∙ e))
+
+-- a scenario's name, or `-`
+pub side_read : (word : Bytes) (p : Option Bytes) → IsSpelled word (SIDE p) → read_side word ≡ Some p
+side_read word None h = ap read_side h
+side_read word (Some name) h = by (bytes_eq word (codes "-")) refl
+  where
+    by : (b : Bool) → bytes_eq word (codes "-") ≡ b → read_side word ≡ Some (Some name)
+    by true e = absurd (both_ways (is_name (codes "-")) refl (ap is_name (sym (is_word word (codes "-") e) ∙ h.0) ∙ h.1))
+    by false e =
+        ap (λ (b : Bool). if b then Some None else option_map (λ (n : Bytes). Some n) (read_name word)) e
+        ∙ ap (option_map (λ (n : Bytes). Some n)) (name_read word name h.0 h.1)
+
+pub spells_side : (word : Bytes) (p : Option Bytes) → read_side word ≡ Some p → IsSpelled word (SIDE p)
+spells_side word p e = by (bytes_eq word (codes "-")) refl (read_name word) refl
+  where
+    by : (b : Bool) → bytes_eq word (codes "-") ≡ b → (o : Option Bytes) → read_name word ≡ o → IsSpelled word (SIDE p)
+    by true f o g = subst (λ (q : Option Bytes). IsSpelled word (SIDE q)) (same_Some None p (sym (ap (λ (b : Bool). if b then Some None else option_map (λ (n : Bytes). Some n) (read_name word)) f) ∙ e)) (is_word word (codes "-") f)
+    by false f None g =
+        absurd (none-some p (sym (ap (λ (b : Bool). if b then Some None else option_map (λ (n : Bytes). Some n) (read_name word)) f ∙ ap (option_map (λ (n : Bytes). Some n)) g) ∙ e))
+    by false f (Some name) g =
+        subst (λ (q : Option Bytes). IsSpelled word (SIDE q))
+        (same_Some (Some name) p (sym (ap (λ (b : Bool). if b then Some None else option_map (λ (n : Bytes). Some n) (read_name word)) f ∙ ap (option_map (λ (n : Bytes). Some n)) g) ∙ e)) (spells_name word name g)
+
+-- ---- numbers of lines
+
+some_bytes : (word : Bytes) → nat_lt 0 (length word) ≡ true → word ≡ [] → ⊥
+some_bytes word e h = both_ways false refl (sym (ap (λ (w : Bytes). nat_lt 0 (length w)) h) ∙ e)
+
+is_some_bytes : (word : Bytes) → (word ≡ [] → ⊥) → nat_lt 0 (length word) ≡ true
+is_some_bytes [] h = absurd (h refl)
+is_some_bytes (b ∷ bs) h = grind (arith, nat_tests)
+
+abbrev pub is_number : Bytes → Bool
+is_number word = ((nat_lt 0 (length word) && nat_le (length word) 7) && all_ascii_digits word) && nat_le (digits_value 10 word) 1000000
+
+is_number_of : (word : Bytes) (n : ℕ) → IsSpelled word (LINES n) → is_number word ≡ true
+is_number_of word n h =
+    and_from _ _ (and_from _ _ (and_from _ _ (is_some_bytes word h.0) (le-leb _ _ h.1)) h.2) (le-leb _ _ (subst (λ (k : ℕ). k ≤ 1000000) (sym h.3) h.4))
+
+pub lines_read : (word : Bytes) (n : ℕ) → IsSpelled word (LINES n) → read_lines word ≡ Some n
+lines_read word n h =
+    ap (λ (b : Bool). if b then Some (digits_value 10 word) else None) (is_number_of word n h) ∙ ap (λ (k : ℕ). Some k) h.3
+
+pub lines_or : (word : Bytes) → ((n : ℕ) × IsSpelled word (LINES n)) ⊎ (read_lines word ≡ None)
+lines_or word = by (is_number word) refl
+  where
+    by : (b : Bool) → is_number word ≡ b → ((n : ℕ) × IsSpelled word (LINES n)) ⊎ (read_lines word ≡ None)
+    by true e =
+        let p = and_parts _ _ e in
+        let q = and_parts _ _ p.0 in
+        let r = and_parts _ _ q.0 in
+        inl (digits_value 10 word, (some_bytes word r.0, leb-true _ _ r.1, q.1, refl, leb-true _ _ p.1))
+    by false e = inr (ap (λ (b : Bool). if b then Some (digits_value 10 word) else None) e)
+
+-- ---- spaces
+
+pub no_skip : (t : Bytes) → is_all_spaces t ≡ true → skip_spaces t ≡ []
+no_skip [] e = refl
+no_skip (b ∷ bs) e =
+    let p = and_parts (is_space b) (is_all_spaces bs) e in
+    ap (λ (v : Bool). if v then skip_spaces bs else b ∷ bs) p.0 ∙ no_skip bs p.1
+
+pub no_word : (t : Bytes) → is_all_spaces t ≡ true → first_word t ≡ []
+no_word t e = ap (before_first is_space) (no_skip t e)
+
+no_cons : (b : ℕ) (bs : Bytes) → b ∷ bs ≡ [] → ⊥
+no_cons b bs e = cc
+
+-- no word is followed by none
+pub none_behind : (t : Bytes) → first_word t ≡ [] → after_word t ≡ []
+none_behind [] e = refl
+none_behind (b ∷ bs) e = by (is_space b) refl (none_behind bs)
+  where
+    by : (v : Bool) → is_space b ≡ v → (first_word bs ≡ [] → after_word bs ≡ []) → after_word (b ∷ bs) ≡ []
+    by true s more =
+        let skip : skip_spaces (b ∷ bs) ≡ skip_spaces bs = ap (λ (v : Bool). if v then skip_spaces bs else b ∷ bs) s in
+        ap (after_first is_space) skip ∙ more (sym (ap (before_first is_space) skip) ∙ e)
+    by false s more =
+        let skip : skip_spaces (b ∷ bs) ≡ b ∷ bs = ap (λ (v : Bool). if v then skip_spaces bs else b ∷ bs) s in
+        let one : 1 + prefix_len (λ x. not (is_space x)) bs ≡ suc (prefix_len (λ x. not (is_space x)) bs) = omega arith in
+        let front : before_first is_space (b ∷ bs) ≡ b ∷ take (prefix_len (λ x. not (is_space x)) bs) bs =
+        ap (λ (v : Bool). take (cond (not v) (1 + prefix_len (λ x. not (is_space x)) bs) 0) (b ∷ bs)) s ∙ ap (λ (k : ℕ). take k (b ∷ bs)) one in
+        let none : b ∷ take (prefix_len (λ x. not (is_space x)) bs) bs ≡ [] = sym front ∙ sym (ap (before_first is_space) skip) ∙ e in
+        absurd (no_cons _ _ none)
+
+-- ---- words one after another, by what they spell
 
 -- ---- a word
 
@@ -30,10 +133,7 @@ is_spelled A_SIDE word p e = spells_side word p e
 none_read : (k : Kind) → read_word k [] ≡ None
 unfolding spelled_cell spelled_rect
 none_read A_CELL = refl
-none_read A_RECT = refl
-none_read A_NAME = refl
-none_read A_SESSION = refl
-none_read A_SIDE = refl
+none_read k = refl
 
 -- ---- and more
 
@@ -47,32 +147,26 @@ operands (MAYBE k ws) (Some v) = operand k v.0 ∷ operands ws v.1
 module _ (text : Bytes) (os : List Operand) where
   parts : (k : Kind) (x : Value k) → IsWritten text (operand k x ∷ os) → IsSpelled (first_word text) (operand k x) × IsWritten (after_word text) os
   parts A_CELL x h = h
-  parts A_RECT x h = h
-  parts A_NAME x h = h
-  parts A_SESSION x h = h
-  parts A_SIDE x h = h
+  parts k x h = h
 
   joined : (k : Kind) (x : Value k) → IsSpelled (first_word text) (operand k x) → IsWritten (after_word text) os → IsWritten text (operand k x ∷ os)
   joined A_CELL x h t = (h, t)
-  joined A_RECT x h t = (h, t)
-  joined A_NAME x h t = (h, t)
-  joined A_SESSION x h t = (h, t)
-  joined A_SIDE x h t = (h, t)
+  joined k x h t = (h, t)
 
 both_parts : {X Y : Type 0} (o : Option X) (p : Option Y) (v : X × Y) → both o p ≡ Some v → (o ≡ Some v.0) × (p ≡ Some v.1)
 both_parts {X} {Y} (Some x) (Some y) v e =
-    let same : (x, y) ≡ v = same_some (x, y) v e in
+    let same : (x, y) ≡ v = same_Some (x, y) v e in
     (ap (λ (z : X × Y). Some z.0) same, ap (λ (z : X × Y). Some z.1) same)
-both_parts {X} {Y} (Some x) None v e = absurd (none_some v e)
-both_parts {X} {Y} None p v e = absurd (none_some v e)
+both_parts {X} {Y} (Some x) None v e = absurd (none-some v e)
+both_parts {X} {Y} None p v e = absurd (none-some v e)
 
 some_of : {X : Type 0} (o v : Option X) → option_map (λ x. Some x) o ≡ Some v → (x : X) × (o ≡ Some x) × (v ≡ Some x)
-some_of {X} None v e = absurd (none_some v e)
-some_of {X} (Some x) v e = (x, refl, sym (same_some (Some x) v e))
+some_of {X} None v e = absurd (none-some v e)
+some_of {X} (Some x) v e = (x, refl, sym (same_Some (Some x) v e))
 
 -- the first word spells something, so not all is spaces
 some_word : (k : Kind) (x : Value k) (text : Bytes) → read_word k (first_word text) ≡ Some x → (b : Bool) → is_all_spaces text ≡ b → b ≡ false
-some_word k x text h true e = absurd (none_some x (sym (ap (read_word k) (no_word text e) ∙ none_read k) ∙ h))
+some_word k x text h true e = absurd (none-some x (sym (ap (read_word k) (no_word text e) ∙ none_read k) ∙ h))
 some_word k x text h false e = refl
 
 pub words_read : (ws : Words) (text : Bytes) (v : Values ws) → IsWritten text (operands ws v) → read_words ws text ≡ Some v
@@ -95,8 +189,8 @@ are_written END text v h = by (is_all_spaces text) refl
   where
     by : (b : Bool) → is_all_spaces text ≡ b → is_all_spaces text ≡ true
     by true e = e
-    by false e = absurd (none_some v (sym (ap (λ (b : Bool). if b then Some tt else None) e) ∙ h))
-are_written TEXT text v h = (same_some text v h, refl)
+    by false e = absurd (none-some v (sym (ap (λ (b : Bool). if b then Some tt else None) e) ∙ h))
+are_written TEXT text v h = (same_Some text v h, refl)
 are_written (AND k ws) text v h =
     let p = both_parts (read_word k (first_word text)) (read_words ws (after_word text)) v h in
     joined text (operands ws v.1) k v.0 (is_spelled k (first_word text) v.0 p.0) (are_written ws (after_word text) v.1 p.1)
@@ -105,7 +199,7 @@ are_written (MAYBE k ws) text v h = by (is_all_spaces text) refl v h (λ x e. ar
     by : (b : Bool) → is_all_spaces text ≡ b → (v : Option (Value k × Values ws)) → read_words (MAYBE k ws) text ≡ Some v
         → ((x : Values ws) → read_words ws (after_word text) ≡ Some x → IsWritten (after_word text) (operands ws x)) → IsWritten text (operands (MAYBE k ws) v)
     by true e v h more =
-        let same : None ≡ v = same_some None v (sym (ap (λ (b : Bool). if b then Some None else option_map (λ v. Some v) (both (read_word k (first_word text)) (read_words ws (after_word text)))) e) ∙ h) in
+        let same : None ≡ v = same_Some None v (sym (ap (λ (b : Bool). if b then Some None else option_map (λ v. Some v) (both (read_word k (first_word text)) (read_words ws (after_word text)))) e) ∙ h) in
         subst (λ (w : Option (Value k × Values ws)). IsWritten text (operands (MAYBE k ws) w)) same e
     by false e v h more =
         let found = some_of (both (read_word k (first_word text)) (read_words ws (after_word text))) v (sym (ap (λ (b : Bool). if b then Some None else option_map (λ v. Some v) (both (read_word k (first_word text)) (read_words ws (after_word text)))) e) ∙ h) in

@@ -1,4 +1,4 @@
--- Data lines, as they are read and held.
+-- Data lines, as they are read and held, and what a line asks for.
 use Rattle.std.specs.Prelude.{◌≡◌, ℕ, ◌+◌, ◌<◌, Bool, true, false, ◌&&◌, ◌==◌, List, [], ◌++◌, length, Option, Some, None, Result, Ok, Err, is_ok, if◌then◌else◌}
 use Rattle.std.specs.List.{list_any, concat}
 use Rattle.wi_values.specs.AddressReading.{read_address}
@@ -18,10 +18,13 @@ use Rattle.wi_cli.specs.declared.data_lines.DataLines.{DataLines}
 use Rattle.wi_cli.specs.declared.fault.RunFault.{RunFault}
 use Rattle.wi_cli.specs.Lines.{raw_lines}
 use Rattle.wi_cli.specs.Reply.{MayLackMemory}
-use Rattle.wi_cli.specs.Inner.CsvCommand.{CsvLine, is_long}
+use Rattle.wi_cli.specs.Inner.Script.{CsvLine, is_long}
 use Rattle.wi_cli.specs.Inner.Told.{RefusedAs}
-use Rattle.wi_cli.specs.Inner.Place.{Place}
-use Rattle.wi_cli.specs.Inner.Taken.{TookLines, BrokeLines}
+use Rattle.wi_cli.specs.Inner.Reading.{Place}
+use Rattle.wi_cli.specs.Inner.Turn.{TookLines, BrokeLines}
+use Rattle.wi_cli.specs.declared.line.Line.{Line}
+use Rattle.wi_cli.specs.Inner.Operands.{IsRead}
+use Rattle.wi_cli.specs.declared.line.Line.TheVariants as read
 
 -- a line that asks for data lines, as it was read
 abbrev pub IsCsv : Option CsvLine → Option ReadCsv → Type 0
@@ -75,3 +78,12 @@ target_of (Err Outside) missing = if missing == 0 then Err OutOfSheet else Err C
 abbrev pub IsTarget : Command → Bool → List ℕ → Result ℕ Refusal → Type 0
 IsTarget c force bytes (Ok at) = (s : State) → MayLackMemory s c × ((a : Answer) → IsImportStep s force at bytes a → IsStep s c a)
 IsTarget c force bytes (Err e) = (s : State) → RefusedAs e s c
+
+-- ---- what a line asks for, as it is read
+
+-- of a line that asks for these data lines, if for any, is UTF-8 or not, and has this command, if it has one, where it
+-- asks for none
+abbrev pub IsAsked : Option CsvLine → Bool → Option Command → Line → Type 0
+IsAsked asked text o read.Passed = (asked ≡ None) × (o ≡ None)
+IsAsked asked text o (read.Csv csv) = IsCsv asked (Some csv) × (csv.is_text ≡ text)
+IsAsked asked text o (read.Command r) = (asked ≡ None) × ((c : Command) × (o ≡ Some c) × IsRead c r)

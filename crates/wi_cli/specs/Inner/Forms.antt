@@ -1,5 +1,5 @@
 -- The command that a text spells, by the forms of commands.
-use Rattle.std.specs.Prelude.{ℕ, Bool, true, false, List, [], ◌∷◌, Option, Some, None, option_map, if◌then◌else◌, codes}
+use Rattle.std.specs.Prelude.{Bool, true, false, List, [], ◌∷◌, Option, Some, None, option_map, if◌then◌else◌, codes}
 use Rattle.std.specs.Str.{bytes_eq}
 use Rattle.wi_values.specs.Name.{Bytes, read_name}
 use Rattle.wi_scenarios.specs.Commands.Operands.{Cell, CornerCells}

@@ -1,19 +1,27 @@
--- The operands of commands, as they are read.
-use Rattle.std.specs.Prelude.{ℕ, Bool, ◌+◌, ◌-◌, ◌==◌, ◌&&◌, ◌||◌, nat_lt, take, drop, List, Option, Some, None, option_map, Result, Ok, Err, if◌then◌else◌, codes}
-use Rattle.std.specs.List.{list_all, prefix_len, position}
+-- The operands of commands, as they are read, and the commands that have them.
+use Rattle.std.specs.Prelude.{ℕ, Bool, ◌+◌, ◌-◌, ◌==◌, ◌&&◌, ◌||◌, nat_lt, take, drop, List, Option, Some, None, option_map, Result, Ok, Err, if◌then◌else◌, codes, ◌≡◌, ◌≢◌, false}
+use Rattle.std.specs.List.{list_all, prefix_len, position, list_any}
 use Rattle.std.specs.Char.{is_ascii_alphabetic}
 use Rattle.std.specs.Str.{byte, bytes_eq}
 use Rattle.std.specs.Str.Parse.{digits_value}
-use Rattle.wi_values.specs.Address.{Area, letters_value, is_row_number}
-use Rattle.wi_values.specs.Name.{read_name}
+use Rattle.std.specs.Result.{result_err}
+use Rattle.wi_values.specs.Address.{Area, letters_value, is_row_number, is_column, is_row}
+use Rattle.wi_values.specs.Name.{read_name, bytes_of}
 use Rattle.wi_values.specs.declared.address.AddressFault.{AddressFault}
 use Rattle.wi_values.specs.declared.address.AddressFault.TheVariants.{Shape, Outside}
 use Rattle.wi_scenarios.specs.declared.refusal.Refusal.{Refusal}
-use Rattle.wi_scenarios.specs.declared.refusal.Refusal.TheVariants.{BadCommand}
+use Rattle.wi_scenarios.specs.declared.refusal.Refusal.TheVariants.{BadCommand, Memory}
 use Rattle.wi_scenarios.specs.Answer.{operand_refusal}
-use Rattle.wi_scenarios.specs.Commands.Operands.{Cell, CornerCells, is_outside, address, area}
-use Rattle.wi_scenarios.specs.Commands.Command.{Command}
+use Rattle.wi_scenarios.specs.Commands.Operands.{Cell, CornerCells, is_outside, address, area, cell, corners}
+use Rattle.wi_scenarios.specs.Commands.Command.{Command, Fill, Table, Set, Clear, Scenario, Drop, Base, Use, As, Show, Export, Changes, Compare, Formula, form}
+use Rattle.wi_values.specs.AddressReading.{read_address, read_rect}
+use Rattle.wi_values.specs.declared.name.Name.{Name}
+use Rattle.wi_scenarios.specs.State.{State}
+use Rattle.wi_scenarios.specs.Commands.Causes.{lies_outside}
+use Rattle.wi_scenarios.specs.Commands.Step.{IsStep}
 use Rattle.wi_cli.specs.Lines.{is_space, first_word, after_word}
+use Rattle.wi_cli.specs.declared.command.Command.{Command as ReadCommand}
+use Rattle.wi_cli.specs.declared.command.Command.TheVariants as read
 
 -- no word is there
 abbrev pub is_all_spaces : List ℕ → Bool
@@ -103,3 +111,85 @@ name_or_none words = if is_all_spaces words then Some None else option_map (λ n
 -- a scenario's name, or `-` for the sheet as it stands
 abbrev pub read_side : List ℕ → Option (Option (List ℕ))
 read_side word = if bytes_eq word (codes "-") then Some None else option_map (λ name. Some name) (read_name word)
+
+-- ---- what commands of several operands are read as, by what each operand is
+
+abbrev pub fill_of : Bool → Result ℕ AddressFault → Result Area AddressFault → Reading
+fill_of force from area =
+    unless_refused (worse (result_err from) (result_err area)) (of_operand from (λ from. of_operand area (λ area. Ok (Fill force (cell from) (corners area)))))
+
+abbrev pub table_of_one : Result ℕ AddressFault → Result ℕ AddressFault → Result Area AddressFault → Reading
+table_of_one f r xs =
+    unless_refused (worse (result_err f) (worse (result_err r) (line_fault is_column xs)))
+    (of_operand f (λ f. of_operand r (λ r. of_operand xs (λ xs. Ok (Table (cell f) (cell r) (corners xs) None)))))
+
+abbrev pub table_of_two : Result ℕ AddressFault → Result ℕ AddressFault → Result Area AddressFault → Result ℕ AddressFault → Result Area AddressFault → Reading
+table_of_two f r xs c ys =
+    unless_refused (worse (result_err f) (worse (result_err r) (worse (line_fault is_column xs) (worse (result_err c) (line_fault is_row ys)))))
+    (of_operand f (λ f. of_operand r (λ r. of_operand xs (λ xs. of_operand c (λ c. of_operand ys (λ ys. Ok (Table (cell f) (cell r) (corners xs) (Some (cell c, corners ys)))))))))
+
+-- with what stands behind the column's word: nothing, or the second input and the row
+abbrev pub table_behind : Result ℕ AddressFault → Result ℕ AddressFault → Result Area AddressFault → List ℕ → Reading
+table_behind f r xs more =
+    if is_all_spaces more then table_of_one f r xs
+    else at_end (after_word (after_word more)) (table_of_two f r xs (read_address (first_word more)) (read_rect (first_word (after_word more))))
+
+-- ---- commands as they are read
+
+-- a command of cells and rectangles of the sheet, where its own lie in it
+abbrev pub placed : Command → Command
+placed (Set force at text) = Set force (cell (address at)) text
+placed (Clear force r) = Clear force (corners (area r))
+placed (Fill force at r) = Fill force (cell (address at)) (corners (area r))
+placed (Scenario name at text) = Scenario name (cell (address at)) text
+placed (Show r) = Show (corners (area r))
+placed (Export r) = Export (corners (area r))
+placed (Compare p q r) = Compare p q (corners (area r))
+placed (Table f r xs None) = Table (cell (address f)) (cell (address r)) (corners (area xs)) None
+placed (Table f r xs (Some y)) =
+    Table (cell (address f)) (cell (address r)) (corners (area xs)) (Some (cell (address y.0), corners (area y.1)))
+placed (Formula at) = Formula (cell (address at))
+placed c = c
+
+-- the command that was read
+abbrev pub command_of : ReadCommand → Command
+command_of (read.Set force at content) = Set force (cell at) content.now
+command_of (read.Clear force area) = Clear force (corners area)
+command_of (read.Fill force from area) = Fill force (cell from) (corners area)
+command_of (read.Scenario name at content) = Scenario (bytes_of name) (cell at) content.now
+command_of (read.Drop name) = Drop (bytes_of name)
+command_of (read.Base name other) = Base (bytes_of name) (option_map bytes_of other)
+command_of (read.Use name) = Use (option_map bytes_of name)
+command_of (read.As name) = As (bytes_of name)
+command_of (read.Show area) = Show (corners area)
+command_of (read.Export area) = Export (corners area)
+command_of read.Changes = Changes
+command_of (read.Compare first second area) = Compare (option_map bytes_of first) (option_map bytes_of second) (corners area)
+command_of (read.Table f r xs) = Table (cell f) (cell r) (corners xs) None
+command_of (read.TableOfTwo f r xs c ys) = Table (cell f) (cell r) (corners xs) (Some (cell c, corners ys))
+command_of (read.Formula at) = Formula (cell at)
+
+-- the command is read so: its operands lie in the sheet, or whatever the state is it is refused
+abbrev pub IsReadAs : Command → Reading → Type 0
+IsReadAs c (Ok d) = (list_any lies_outside (form c) ≡ false) × (d ≡ placed c)
+IsReadAs c (Err e) = (s : State) → IsStep s c (Err e)
+
+-- this was read
+abbrev pub IsReading : Reading → Result ReadCommand Refusal → Type 0
+IsReading r (Ok d) = r ≡ Ok (command_of d)
+IsReading r (Err e) = (r ≡ Err e) × (e ≢ Memory)
+
+-- the command was read; or it is refused, not as out of memory
+unfoldable pub IsRead : Command → Result ReadCommand Refusal → Type 0
+IsRead c (Ok d) = IsReadAs c (Ok (command_of d))
+IsRead c (Err e) = IsReadAs c (Err e) × (e ≢ Memory)
+
+-- a name that was read
+abbrev pub IsNameOf : Option (List ℕ) → Result Name Refusal → Type 0
+IsNameOf o (Ok name) = o ≡ Some (bytes_of name)
+IsNameOf o (Err e) = (o ≡ None) × (e ≡ BadCommand)
+
+-- a name that was read, or none, where none may stand
+abbrev pub IsNameOrNoneOf : Option (Option (List ℕ)) → Result (Option Name) Refusal → Type 0
+IsNameOrNoneOf o (Ok name) = o ≡ Some (option_map bytes_of name)
+IsNameOrNoneOf o (Err e) = (o ≡ None) × (e ≡ BadCommand)

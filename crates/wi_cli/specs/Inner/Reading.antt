@@ -1,10 +1,25 @@
--- What the reader of lines takes.
-use Rattle.std.specs.Prelude.{◌≡◌, ℕ, ◌+◌, ◌<◌, ◌≤◌, Bool, true, false, List, [], ◌∷◌, ◌++◌, length, take, Option, Result, MatchResult, if◌then◌else◌, codes}
-use Rattle.std.specs.Io.KnownBytes.{IsAtEnd, prepend_known}
+-- The bytes that are still to come, what the reader of lines takes of them, and how far a script was read.
+use Rattle.std.specs.Prelude.{ℕ, ◌+◌, ◌*◌, List, length, Option, ◌≡◌, ◌<◌, ◌≤◌, Bool, true, false, [], ◌∷◌, ◌++◌, take, Result, MatchResult, if◌then◌else◌, codes, nat_lt}
+use Rattle.std.specs.Io.KnownBytes.{prepend_known, Consumes, IsAtEnd}
+use Rattle.wi_scenarios.specs.State.{State}
 use Rattle.wi_cli.specs.declared.fault.RunFault.{RunFault}
 use Rattle.wi_cli.specs.declared.fault.RunFault.TheVariants.{Memory, Read, Write, ScriptLimit}
-use Rattle.wi_cli.specs.Inner.Ahead.{Takes}
-use Rattle.wi_cli.specs.Lines.{is_whole, max_line}
+use Rattle.wi_cli.specs.Lines.{is_whole, max_line, max_lines}
+use Rattle.wi_cli.specs.declared.lines.LineReader.{LineReader}
+
+-- the bytes in the buffer and then the source's are bs and then what they are now
+abbrev pub Takes : List ℕ → Option (List ℕ) → List ℕ → Option (List ℕ) → List ℕ → Type 0
+Takes buffer left buffer' left' bs = Consumes (prepend_known buffer left) (prepend_known buffer' left') bs
+
+-- how many bytes one read gives, at most
+abbrev pub max_read : ℕ
+max_read = 4096
+
+-- how many bytes can still come, at most
+abbrev pub budget : List ℕ → ℕ → ℕ
+budget buffer reads = length buffer + max_read * reads
+
+-- ---- the reader of lines
 
 -- what is kept of a line: one byte more than the greatest length tells that it is too long
 unfoldable pub line_front : List ℕ → List ℕ
@@ -53,3 +68,40 @@ Broke Read allowed buffer left buffer' left' =
     (content : List ℕ) × (is_whole content ≡ false) × (buffer' ≡ []) × Takes buffer left buffer' left' content × (0 < length content → allowed ≡ true)
 Broke Write allowed buffer left buffer' left' = ⊥
 Broke ScriptLimit allowed buffer left buffer' left' = (b : ℕ) × (allowed ≡ false) × Takes buffer left buffer' left' (b ∷ [])
+
+-- ---- how far a script was read, and how far a run has come
+
+-- What was read and not yet taken, what the source has left, and how many lines were taken whole.
+pub record Place : Type 0 where
+  pub chunk : List ℕ
+  pub left : Option (List ℕ)
+  pub lines : ℕ
+
+abbrev pub place_of : {R : Type 0} → (R → Option (List ℕ)) → LineReader → R → Place
+place_of remaining script source = record { chunk = script.chunk; left = remaining source; lines = script.lines }
+
+-- these bytes were taken in between
+abbrev pub Advances : Place → Place → List ℕ → Type 0
+Advances p q bs = Takes p.chunk p.left q.chunk q.left bs
+
+-- nothing is to come
+abbrev pub IsOver : Place → Type 0
+IsOver p = IsAtEnd (prepend_known p.chunk p.left)
+
+-- one line was taken, or none was there, and counted if its LF came; or none was, for a fault
+pub record TookNext (whole : Bool) (p q : Place) (line : List ℕ) : Type 0 where
+  pub took : TookLine (nat_lt p.lines max_lines) whole p.chunk p.left q.chunk q.left line
+  pub counted : q.lines ≡ p.lines + (if whole then 1 else 0)
+
+abbrev pub BrokeNext : RunFault → Place → Place → Type 0
+BrokeNext fault p q = Broke fault (nat_lt p.lines max_lines) p.chunk p.left q.chunk q.left
+
+-- How far a run has come: what was read, the state, and what was written.
+pub record Stage : Type 0 where
+  pub read : Place
+  pub state : State
+  pub written : Option (List ℕ)
+
+abbrev pub stage_of : {R W : Type 0} → (R → Option (List ℕ)) → (W → Option (List ℕ)) → LineReader → R → W → State → Stage
+stage_of remaining contents script source sink s =
+    record { read = place_of remaining script source; state = s; written = contents sink }

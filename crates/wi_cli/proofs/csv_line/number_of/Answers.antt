@@ -1,5 +1,4 @@
-use Rattle.wi_cli.proofs.Vocabulary.{◌≡◌, ◌∙◌, ◌+◌, ◌<◌, ◌≤◌, ℕ, Bool, true, false, ◌&&◌, min, drop, length, Some, get_or, refl, sym, ap, arith, nat_tests, digit_value, is_ascii_digit, all_ascii_digits, digits_value, digits_value_after, digits_step, Bytes}
-use Rattle.std.proofs.lemmas.List.{at_drop_more, at_drop_all}
+use Rattle.wi_cli.proofs.Vocabulary.{◌≡◌, ◌∙◌, ◌+◌, ◌<◌, ◌≤◌, ℕ, Bool, true, false, ◌&&◌, min, drop, length, Some, get_or, refl, sym, ap, arith, nat_tests, digit_value, is_ascii_digit, all_ascii_digits, digits_value, digits_value_after, digits_step, Bytes, at_drop_more, at_drop_all}
 use Rattle.wi_cli.proofs.csv_line.number_of.Goals as goal
 
 is_digit : (b d : ℕ) → d ≡ b → digit_value d < 10 → is_ascii_digit b ≡ true

@@ -4,6 +4,3 @@ use Rattle.wi_cli.proofs.exit.new_calculator.Goals as goal
 
 pub returns-clause-stored : goal.returns-clause-stored
 returns-clause-stored c = is_standard c.new.result _ c.new.ensures.stored (search rules) (search rules)
-
-pub returns-clause-values : goal.returns-clause-values
-returns-clause-values c = search rules

@@ -1,5 +1,5 @@
 use Rattle.wi_cli.proofs.Vocabulary.{rules, err_from_is_err_and}
-use Rattle.wi_cli.proofs.InTurnLemmas.{in_turn_stopped, in_turn_both}
+use Rattle.wi_cli.proofs.ExitLemmas.{in_turn_stopped, in_turn_both}
 use Rattle.wi_cli.proofs.in_turn.run_in_turn.Goals as goal
 
 pub returns-in_err-run : goal.returns-in_err-run

@@ -1,5 +1,5 @@
 use Rattle.wi_cli.proofs.Vocabulary.{rules}
-use Rattle.wi_cli.proofs.InTurnLemmas.{in_turn_not_begun, in_turn_new}
+use Rattle.wi_cli.proofs.ExitLemmas.{in_turn_not_begun, in_turn_new}
 use Rattle.wi_cli.proofs.in_turn.run_new_in_turn.Goals as goal
 
 pub returns-in_default-clause-runs : goal.returns-in_default-clause-runs

@@ -1,4 +1,4 @@
-use Rattle.wi_cli.proofs.NamedLemmas.{compared}
+use Rattle.wi_cli.proofs.AskedLemmas.{compared}
 use Rattle.wi_cli.proofs.Ties.Readings.{compare_so}
 use Rattle.wi_cli.proofs.look_commands.read_compare.Goals as goal
 

@@ -19,20 +19,11 @@ returns-then-is_empty-clause-list g c =
     nothing_found (g.C.Calculator.stored c.args.calculator.now) c.args.desk.now (pending_of c.args.desk.now.sessions c.args.desk.now.current) c.in_ok-cells.cells.items c.new.result.items
     c.requires c.in_ok-cells.ensures.order refl c.in_ok-cells.ensures.list none c.new.ensures.items
 
-pub returns-then-is_empty-clause-same : goal.returns-then-is_empty-clause-same
-returns-then-is_empty-clause-same g c = refl
-
 pub returns-then-is_empty-clause-quiet : goal.returns-then-is_empty-clause-quiet
 returns-then-is_empty-clause-quiet g c = λ none. (refl, refl)
 
-pub returns-in_err-cells-clause-same : goal.returns-in_err-cells-clause-same
-returns-in_err-cells-clause-same g c = refl
-
 pub returns-in_err-cells-clause-quiet : goal.returns-in_err-cells-clause-quiet
 returns-in_err-cells-clause-quiet g c = λ none. (refl, refl)
-
-pub returns-in_err-put-clause-same : goal.returns-in_err-put-clause-same
-returns-in_err-put-clause-same g c = refl
 
 pub returns-in_err-put-clause-quiet : goal.returns-in_err-put-clause-quiet
 returns-in_err-put-clause-quiet g c = λ none. (refl, refl)

@@ -1,14 +1,5 @@
-use Rattle.wi_scenarios.proofs.Words.{rules, ◌∙◌}
+use Rattle.wi_scenarios.proofs.Words.{◌∙◌}
 use Rattle.wi_scenarios.proofs.changes.tell.Goals as goal
-
-pub returns-in_err-push_changes-clause-refused : goal.returns-in_err-push_changes-clause-refused
-returns-in_err-push_changes-clause-refused c = search rules
-
-pub returns-else-is_err-clause-told : goal.returns-else-is_err-clause-told
-returns-else-is_err-clause-told c = search rules
-
-pub returns-then-is_err-clause-refused : goal.returns-then-is_err-clause-refused
-returns-then-is_err-clause-refused c = search rules
 
 pub returns-in_err-push_changes-clause-none : goal.returns-in_err-push_changes-clause-none
 returns-in_err-push_changes-clause-none c = λ none bare untold. absurd (c.in_err-push_changes.ensures.some (c.deref.ensures.value ∙ untold))

@@ -1,6 +1,6 @@
 use Rattle.wi_scenarios.proofs.Words.{◌∙◌, [], ◌∷◌, refl, book_by, state_of}
 use Rattle.wi_scenarios.proofs.CallLemmas.{unchanged, as_step}
-use Rattle.wi_scenarios.proofs.ClearLemmas.{emptied_are, emptied_cells, clear_edited, clear_lacks}
+use Rattle.wi_scenarios.proofs.ClearSteps.{emptied_are, emptied_cells, clear_edited, clear_lacks}
 use Rattle.wi_scenarios.proofs.clear.clear.Goals as goal
 
 pub returns-in_err-cells-clause-edit : goal.returns-in_err-cells-clause-edit

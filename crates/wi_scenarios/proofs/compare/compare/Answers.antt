@@ -1,5 +1,5 @@
 use Rattle.wi_scenarios.proofs.Words.{◌∙◌, true, false, refl, sym, ap, option_copied, lacks, ◌||◌, book_by, state_of}
-use Rattle.wi_scenarios.proofs.LookLemmas.{look_refused, look_lacked, look_done}
+use Rattle.wi_scenarios.proofs.CallLemmas.{look_refused, look_lacked, look_done}
 use Rattle.wi_scenarios.proofs.LookSteps.{compare_of}
 use Rattle.wi_scenarios.proofs.compare.compare.Goals as goal
 

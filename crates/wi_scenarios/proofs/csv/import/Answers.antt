@@ -1,7 +1,7 @@
 use Rattle.wi_scenarios.proofs.Words.{rules, refl, subst, sym, fields_at, AreChanges, book_by, state_of}
 use Rattle.wi_import.specs.declared.fault.ImportFault.TheVariants as import
 use Rattle.wi_scenarios.proofs.CallLemmas.{unchanged, as_step}
-use Rattle.wi_scenarios.proofs.CsvLemmas.{csv_refused, csv_edited, imported_are}
+use Rattle.wi_scenarios.proofs.CsvSteps.{csv_refused, csv_edited, imported_are}
 use Rattle.wi_scenarios.proofs.csv.import.Goals as goal
 
 pub returns-in_err-found-clause-edit : goal.returns-in_err-found-clause-edit

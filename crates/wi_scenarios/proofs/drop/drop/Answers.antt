@@ -1,13 +1,12 @@
-use Rattle.wi_scenarios.proofs.Words.{◌∙◌, true, false, refl, sym, rules, state_of}
-use Rattle.wi_scenarios.proofs.ScenarioSteps.{is_in_use, drop_step, drop_done}
-use Rattle.wi_scenarios.proofs.DropLemmas.{sound_without}
+use Rattle.wi_scenarios.proofs.Words.{◌∙◌, refl, sym, rules, state_of}
+use Rattle.wi_scenarios.proofs.ScenarioSteps.{drop_unknown, drop_used, drop_done, sound_without}
 use Rattle.wi_scenarios.proofs.drop.drop.Goals as goal
 
 pub returns-then-not-contains-clause-dropped : goal.returns-then-not-contains-clause-dropped
 returns-then-not-contains-clause-dropped g c =
     let s = state_of (g.C.Calculator.stored c.args.calculator.now) c.args.desk.now in
     record {
-      step = (drop_step s c.args.name.now false (is_in_use s c.args.name.now) (sym c.contains.ensures ∙ c.if-not-contains.true) refl, refl, refl);
+      step = (drop_unknown s c.args.name.now (sym c.contains.ensures ∙ c.if-not-contains.true), refl, refl);
       pending = refl;
       counts = (refl, refl);
       no_memory = λ e. cc;
@@ -17,7 +16,7 @@ pub returns-then-is_used-clause-dropped : goal.returns-then-is_used-clause-dropp
 returns-then-is_used-clause-dropped g c =
     let s = state_of (g.C.Calculator.stored c.args.calculator.now) c.args.desk.now in
     record {
-      step = (drop_step s c.args.name.now true true (sym c.contains.ensures ∙ c.if-not-contains.false) (search rules), refl, refl);
+      step = (drop_used s c.args.name.now (sym c.contains.ensures ∙ c.if-not-contains.false) (search rules), refl, refl);
       pending = refl;
       counts = (refl, refl);
       no_memory = λ e. cc;

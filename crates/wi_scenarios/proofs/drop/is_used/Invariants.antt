@@ -1,5 +1,4 @@
-use Rattle.wi_scenarios.proofs.Words.{◌≡◌, false, list_any, is_name_of}
-use Rattle.std.specs.Prelude.{take}
+use Rattle.wi_scenarios.proofs.Words.{◌≡◌, false, list_any, is_name_of, take}
 use Rattle.wi_scenarios.proofs.drop.is_used.Given as goal
 
 -- none before this one uses it

@@ -1,5 +1,5 @@
 use Rattle.wi_scenarios.proofs.Words.{◌∙◌, ◌++◌, true, false, List, refl, sym, ap, book_by, state_of, export_of, rows_shown, shown, asked_same, nothing_asked, rows_cases, Replacement}
-use Rattle.wi_scenarios.proofs.LookLemmas.{look_refused, look_lacked, look_done}
+use Rattle.wi_scenarios.proofs.CallLemmas.{look_refused, look_lacked, look_done}
 use Rattle.wi_scenarios.proofs.LookSteps.{export_of_area}
 use Rattle.wi_scenarios.proofs.export.export.Goals as goal
 

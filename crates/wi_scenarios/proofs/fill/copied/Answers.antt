@@ -1,5 +1,5 @@
 use Rattle.wi_scenarios.proofs.Words.{◌≡◌, None, ap, rules, option_copied, rows_between, columns_between, copied}
-use Rattle.wi_scenarios.proofs.FillLemmas.{lacks_copy, formula_copied, formula_not_copied}
+use Rattle.wi_scenarios.proofs.FillSteps.{lacks_copy, formula_copied, formula_not_copied}
 use Rattle.wi_scenarios.proofs.fill.copied.Goals as goal
 
 pub returns-in-None : goal.returns-in-None

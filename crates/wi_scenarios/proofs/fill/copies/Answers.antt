@@ -1,6 +1,6 @@
 use Rattle.wi_scenarios.proofs.Words.{◌+◌, ◌-◌, ℕ, List, sym, subst, arith, option_copied, cells_of, AreCopies, HasNoCopies, rows_from, rows_are, one_row}
-use Rattle.wi_scenarios.proofs.AnswerLemmas.{at_error}
-use Rattle.wi_scenarios.proofs.FillLemmas.{no_copy_in_rows}
+use Rattle.wi_scenarios.proofs.CallLemmas.{at_error}
+use Rattle.wi_scenarios.proofs.FillSteps.{no_copy_in_rows}
 use Rattle.wi_scenarios.proofs.fill.copies.Goals as goal
 
 pub returns-in_err-push_copies : goal.returns-in_err-push_copies

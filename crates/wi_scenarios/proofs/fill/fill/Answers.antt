@@ -1,6 +1,6 @@
 use Rattle.wi_scenarios.proofs.Words.{[], ◌∷◌, refl, sym, ◌∙◌, subst, rules, option_copied, cells_of, AreCopies, book_by, state_of}
 use Rattle.wi_scenarios.proofs.CallLemmas.{unchanged, as_step}
-use Rattle.wi_scenarios.proofs.FillLemmas.{fill_too_large, fill_leaves, fill_edited, copied_cells}
+use Rattle.wi_scenarios.proofs.FillSteps.{fill_too_large, fill_leaves, fill_edited, copied_cells}
 use Rattle.wi_scenarios.proofs.fill.fill.Goals as goal
 
 pub returns-then-is_too_large-clause-edit : goal.returns-then-is_too_large-clause-edit

@@ -1,6 +1,6 @@
 use Rattle.wi_scenarios.proofs.Words.{◌+◌, ◌-◌, ℕ, List, ◌++◌, sym, subst, arith, option_copied, cells_of_row, AreCopies, HasNoCopies, row_is}
-use Rattle.wi_scenarios.proofs.AnswerLemmas.{at_error}
-use Rattle.wi_scenarios.proofs.FillLemmas.{one_cell, no_copy_in_row}
+use Rattle.wi_scenarios.proofs.CallLemmas.{at_error}
+use Rattle.wi_scenarios.proofs.FillSteps.{one_cell, no_copy_in_row}
 use Rattle.wi_scenarios.proofs.fill.push_copies.Goals as goal
 
 pub returns-in_err-copy : goal.returns-in_err-copy

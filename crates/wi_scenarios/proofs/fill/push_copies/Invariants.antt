@@ -1,5 +1,4 @@
-use Rattle.wi_scenarios.proofs.Words.{◌≤◌, ◌+◌, ◌-◌, List, ◌++◌, option_copied, AreCopies, cells_in}
-use Rattle.std.specs.Prelude.{ℕ}
+use Rattle.wi_scenarios.proofs.Words.{◌≤◌, ◌+◌, ◌-◌, List, ◌++◌, option_copied, AreCopies, cells_in, ℕ}
 use Rattle.wi_scenarios.proofs.fill.push_copies.Given as goal
 
 -- the cells before this column have got their copies

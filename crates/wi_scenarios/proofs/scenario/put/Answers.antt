@@ -1,5 +1,4 @@
-use Rattle.wi_scenarios.proofs.Words.{◌≡◌, List, ℕ, length, sym, ap, subst, arith, common_steps, nil_from_length, ServesSound}
-use Rattle.wi_scenarios.proofs.CommandWords.{Scenario, cell}
+use Rattle.wi_scenarios.proofs.Words.{◌≡◌, List, ℕ, length, sym, ap, subst, arith, common_steps, nil_from_length, ServesSound, Scenario, cell}
 use Rattle.wi_scenarios.proofs.scenario.put.Goals as goal
 
 pub put_text-requires-clause-some : goal.put_text-requires-clause-some

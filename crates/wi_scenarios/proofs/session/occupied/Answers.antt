@@ -1,5 +1,4 @@
-use Rattle.wi_scenarios.proofs.Words.{subst, IfOk, filter, keys_of, is_within}
-use Rattle.std.specs.Prelude.{◌≡◌}
+use Rattle.wi_scenarios.proofs.Words.{subst, IfOk, filter, keys_of, is_within, ◌≡◌}
 use Rattle.wi_scenarios.proofs.SessionLemmas.{whole_area, occupied_closed}
 use Rattle.wi_scenarios.proofs.session.occupied.Goals as goal
 

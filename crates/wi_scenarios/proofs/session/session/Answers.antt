@@ -1,6 +1,5 @@
-use Rattle.wi_scenarios.proofs.Words.{◌≡◌, ◌∙◌, [], Ok, true, false, refl, sym, ap, rules, false≢true, has_session, on_err, Desk, pending_in, state_of}
-use Rattle.wi_scenarios.proofs.CommandWords.{As, IsStep}
-use Rattle.wi_scenarios.proofs.AnswerLemmas.{lacked}
+use Rattle.wi_scenarios.proofs.Words.{◌≡◌, ◌∙◌, [], Ok, true, false, refl, sym, ap, rules, false≢true, has_session, on_err, Desk, pending_in, state_of, As, IsStep}
+use Rattle.wi_scenarios.proofs.CallLemmas.{lacked}
 use Rattle.wi_scenarios.proofs.ScenarioSteps.{as_full, as_there, as_new, grown}
 use Rattle.wi_scenarios.proofs.session.session.Goals as goal
 

@@ -1,6 +1,6 @@
 use Rattle.wi_scenarios.proofs.Words.{◌∙◌, Some, [], ◌∷◌, refl, sym, book_by, state_of}
 use Rattle.wi_scenarios.proofs.CallLemmas.{unchanged, as_step}
-use Rattle.wi_scenarios.proofs.SetLemmas.{set_empty, set_refused, set_edited, one_cell_edit}
+use Rattle.wi_scenarios.proofs.SetSteps.{set_empty, set_refused, set_edited, one_cell_edit}
 use Rattle.wi_scenarios.proofs.set.set.Goals as goal
 
 pub returns-then-is_empty-clause-edit : goal.returns-then-is_empty-clause-edit

@@ -1,5 +1,5 @@
 use Rattle.wi_scenarios.proofs.Words.{◌∙◌, List, refl, ap, Session, state_of}
-use Rattle.wi_scenarios.proofs.SwitchedLemmas.{scenarios_switched, made_switched, made_nothing}
+use Rattle.wi_scenarios.proofs.SwitchLemmas.{scenarios_switched, made_switched, made_nothing}
 use Rattle.wi_scenarios.proofs.switch.switch_to.Goals as goal
 
 pub returns-in-Ok : goal.returns-in-Ok

@@ -1,6 +1,6 @@
 use Rattle.wi_scenarios.proofs.Words.{◌≡◌, ◌∙◌, ◌++◌, ◌&&◌, true, false, nat_le, List, refl, ap, rules, max_area, book_by, state_of, is_column, has_row, entries, table_of, asked_same, nothing_asked, table_cases, Replacement}
-use Rattle.wi_scenarios.proofs.LookLemmas.{look_refused, look_lacked, look_done}
-use Rattle.wi_scenarios.proofs.TableSteps.{table_found}
+use Rattle.wi_scenarios.proofs.CallLemmas.{look_refused, look_lacked, look_done}
+use Rattle.wi_scenarios.proofs.LookSteps.{table_found}
 use Rattle.wi_scenarios.proofs.table.table.Goals as goal
 
 pub returns-then-not-is_shaped-clause-looks : goal.returns-then-not-is_shaped-clause-looks

@@ -1,5 +1,5 @@
 use Rattle.wi_scenarios.proofs.Words.{◌∙◌, List, ap, slice_set, option_copied, Session, using_scenario, session_at, vacant_of, State, state_of}
-use Rattle.wi_scenarios.proofs.SwitchedLemmas.{IsSwitch, made_switched, made_nothing, switched_others, others_none, used_sessions, use_switched}
+use Rattle.wi_scenarios.proofs.SwitchLemmas.{IsSwitch, made_switched, made_nothing, switched_others, others_none, used_sessions, use_switched}
 use Rattle.wi_scenarios.proofs.use_scenario.use_in_current.Goals as goal
 
 switched : (g : _) (c : goal.After-commit_all g) → IsSwitch g.C.Calculator.marked (g.C.Calculator.stored c.args.calculator.now) c.args.desk.now (record c.make_room_for_current.new.desk { sessions = c.commit_all.new.self }) (vacant_of c.make_room_for_current.new.desk.sessions)

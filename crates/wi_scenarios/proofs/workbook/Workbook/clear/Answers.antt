@@ -1,5 +1,4 @@
-use Rattle.wi_scenarios.proofs.Words.{occupied_in, subst, Book, IsEditBy, book_by}
-use Rattle.wi_scenarios.proofs.CommandWords.{Clear, corners}
+use Rattle.wi_scenarios.proofs.Words.{occupied_in, subst, Book, IsEditBy, book_by, Clear, corners}
 use Rattle.wi_scenarios.proofs.workbook.Workbook.clear.Goals as goal
 
 pub returns : goal.returns

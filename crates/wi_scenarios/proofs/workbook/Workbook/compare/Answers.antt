@@ -1,6 +1,4 @@
-use Rattle.wi_values.specs.Name.{bytes_of}
-use Rattle.wi_scenarios.proofs.Words.{List, ℕ, Option, option_copied, option_map, subst, Book, Looks, asked_by_compare, book_by}
-use Rattle.wi_scenarios.proofs.CommandWords.{Compare, corners}
+use Rattle.wi_scenarios.proofs.Words.{List, ℕ, Option, option_copied, option_map, subst, Book, Looks, asked_by_compare, book_by, Compare, corners, bytes_of}
 use Rattle.wi_scenarios.proofs.CallLemmas.{seen}
 use Rattle.wi_scenarios.proofs.workbook.Workbook.compare.Goals as goal
 

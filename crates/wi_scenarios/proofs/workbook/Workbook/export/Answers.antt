@@ -1,5 +1,4 @@
-use Rattle.wi_scenarios.proofs.Words.{subst, Book, Looks, asked_by_show, book_by}
-use Rattle.wi_scenarios.proofs.CommandWords.{Export, corners}
+use Rattle.wi_scenarios.proofs.Words.{subst, Book, Looks, asked_by_show, book_by, Export, corners}
 use Rattle.wi_scenarios.proofs.workbook.Workbook.export.Goals as goal
 
 pub returns : goal.returns

@@ -1,5 +1,4 @@
-use Rattle.wi_scenarios.proofs.Words.{cells_of, subst, Book, IsEditBy, book_by}
-use Rattle.wi_scenarios.proofs.CommandWords.{Fill, cell, corners}
+use Rattle.wi_scenarios.proofs.Words.{cells_of, subst, Book, IsEditBy, book_by, Fill, cell, corners}
 use Rattle.wi_scenarios.proofs.workbook.Workbook.fill.Goals as goal
 
 pub returns : goal.returns

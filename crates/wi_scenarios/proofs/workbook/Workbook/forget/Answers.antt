@@ -1,5 +1,4 @@
-use Rattle.wi_scenarios.proofs.Words.{◌≡◌, ◌∙◌, sym, subst, Stored, IsSound}
-use Rattle.wi_scenarios.specs.Inner.Sound.{book_of}
+use Rattle.wi_scenarios.proofs.Words.{◌≡◌, ◌∙◌, sym, subst, Stored, IsSound, book_of}
 use Rattle.wi_scenarios.proofs.workbook.Workbook.forget.Goals as goal
 
 pub invariant_of-self : goal.invariant_of-self

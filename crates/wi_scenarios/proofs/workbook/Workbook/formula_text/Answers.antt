@@ -1,5 +1,4 @@
-use Rattle.wi_scenarios.proofs.Words.{subst, Book, ServesInto}
-use Rattle.wi_scenarios.proofs.CommandWords.{Formula, cell, IsStep}
+use Rattle.wi_scenarios.proofs.Words.{subst, Book, ServesInto, Formula, cell, IsStep}
 use Rattle.wi_scenarios.proofs.workbook.Workbook.formula_text.Goals as goal
 
 pub returns : goal.returns

@@ -1,6 +1,4 @@
-use Rattle.wi_values.specs.Name.{bytes_of}
-use Rattle.wi_scenarios.proofs.Words.{List, ℕ, [], Option, option_copied, subst, Book, IsEditBy, book_by}
-use Rattle.wi_scenarios.proofs.CommandWords.{Base}
+use Rattle.wi_scenarios.proofs.Words.{List, ℕ, [], Option, option_copied, subst, Book, IsEditBy, book_by, Base, bytes_of}
 use Rattle.wi_scenarios.proofs.CallLemmas.{seen}
 use Rattle.wi_scenarios.proofs.workbook.Workbook.scenario_base.Goals as goal
 

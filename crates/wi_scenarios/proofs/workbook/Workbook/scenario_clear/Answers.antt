@@ -1,5 +1,4 @@
-use Rattle.wi_scenarios.proofs.Words.{List, ℕ, [], Book, IsEditBy, book_by}
-use Rattle.wi_scenarios.proofs.CommandWords.{Scenario, cell}
+use Rattle.wi_scenarios.proofs.Words.{List, ℕ, [], Book, IsEditBy, book_by, Scenario, cell}
 use Rattle.wi_scenarios.proofs.CallLemmas.{seen}
 use Rattle.wi_scenarios.proofs.workbook.Workbook.scenario_clear.Goals as goal
 

@@ -1,5 +1,4 @@
-use Rattle.wi_scenarios.proofs.Words.{[], ◌∷◌, subst, Book, IsEditBy, book_by}
-use Rattle.wi_scenarios.proofs.CommandWords.{Set, cell}
+use Rattle.wi_scenarios.proofs.Words.{[], ◌∷◌, subst, Book, IsEditBy, book_by, Set, cell}
 use Rattle.wi_scenarios.proofs.workbook.Workbook.set.Goals as goal
 
 pub returns : goal.returns

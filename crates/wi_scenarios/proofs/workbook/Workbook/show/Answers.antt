@@ -1,5 +1,4 @@
-use Rattle.wi_scenarios.proofs.Words.{subst, Book, Looks, asked_by_show, book_by}
-use Rattle.wi_scenarios.proofs.CommandWords.{Show, corners}
+use Rattle.wi_scenarios.proofs.Words.{subst, Book, Looks, asked_by_show, book_by, Show, corners}
 use Rattle.wi_scenarios.proofs.workbook.Workbook.show.Goals as goal
 
 pub returns : goal.returns

@@ -1,6 +1,4 @@
-use Rattle.wi_scenarios.specs.Inner.Placed.{IsTablePlaced}
-use Rattle.wi_scenarios.proofs.Words.{ℕ, Option, sym, subst, Area, Book, Looks, asked_by_table, book_by}
-use Rattle.wi_scenarios.proofs.CommandWords.{Table, cell, corners, second_input}
+use Rattle.wi_scenarios.proofs.Words.{ℕ, Option, sym, subst, Area, Book, Looks, asked_by_table, book_by, Table, cell, corners, second_input, IsTablePlaced}
 use Rattle.wi_scenarios.proofs.CallLemmas.{seen}
 use Rattle.wi_scenarios.proofs.workbook.Workbook.table.Goals as goal
 

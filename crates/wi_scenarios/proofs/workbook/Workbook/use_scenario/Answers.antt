@@ -1,5 +1,4 @@
-use Rattle.wi_scenarios.proofs.Words.{List, ℕ, [], Option, Book, IsEditBy, book_by}
-use Rattle.wi_scenarios.proofs.CommandWords.{Use}
+use Rattle.wi_scenarios.proofs.Words.{List, ℕ, [], Option, Book, IsEditBy, book_by, Use}
 use Rattle.wi_scenarios.proofs.CallLemmas.{seen}
 use Rattle.wi_scenarios.proofs.workbook.Workbook.use_scenario.Goals as goal
 

@@ -1,14 +1,29 @@
--- As what `table` is read, with one input and with two, and its step.
-use Rattle.wi_cli.proofs.Vocabulary.{◌≡◌, ◌<◌, ◌*◌, ℕ, min, max, Bool, true, false, not, ◌||◌, ◌&&◌, ◌==◌, nat_lt, List, [], ◌∷◌, Option, Some, None, Result, if◌then◌else◌, refl, sym, ap, ◌∙◌, subst, arith, nat_tests, list_any, result_err, or_parts, both_ways, or-false, Area, columns, row_of, column_of, size_of, AddressFault, Shape, row_of_place, column_of_place, State, max_area, is_column, is_row, of_operand, worse, line_fault, unless_refused, table_of_one, table_of_two, Cell, CornerCells, is_outside, lies_outside, form, address, area, Table, Answer, read_by, Ok, ap₂, ◌++◌, or-true, Reading, IsReadAs, IsStep, placed}
+-- Cells and rectangles as they are read, and the commands that have them.
+use Rattle.wi_cli.proofs.Vocabulary.{◌≡◌, ◌<◌, ℕ, false, Result, ap₂, arith, nat_tests, ◌||◌, Area, AddressFault, columns, row_of_place, column_of_place, Cell, CornerCells, is_outside, address, area, read_by, Bool, cell, ◌*◌, min, max, true, not, ◌&&◌, ◌==◌, nat_lt, List, [], ◌∷◌, Option, Some, None, if◌then◌else◌, refl, sym, ap, ◌∙◌, subst, list_any, result_err, or_parts, both_ways, or-false, row_of, column_of, size_of, Shape, State, max_area, is_column, is_row, of_operand, worse, line_fault, unless_refused, table_of_one, table_of_two, lies_outside, form, Table, Answer, Ok, ◌++◌, or-true, Reading, IsReadAs, IsStep, placed, second_input, cells_asked, has_row, entries, IsTablePlaced, placed_again, spanned_again, is_misshaped, addresses, table_step, table_by, no_other, Bytes, lacks, Clear, Command, Compare, Export, Fill, Formula, Scenario, Set, Show, cleared, clear_outside, clear_step, clear_of, fill_edit, leaves, filled_by, fill_outside, fill_step, area_answer, shown_in, show_step, show_of, exported_in, export_step, export_of_area, compared_in, compare_step, compare_of}
 use Rattle.wi_values.specs.declared.address.AddressFault.TheVariants.{Outside as AtOutside}
-use Rattle.wi_scenarios.specs.Commands.Operands.{cell, corners, second_input}
-use Rattle.wi_scenarios.specs.Commands.Causes.{cells_asked}
-use Rattle.wi_reports.specs.Inner.Shape.{has_row, entries}
-use Rattle.wi_scenarios.specs.Inner.Placed.{IsTablePlaced}
-use Rattle.wi_scenarios.proofs.OperandLemmas.{placed_again, spanned_again}
-use Rattle.wi_scenarios.proofs.TableSteps.{is_misshaped, addresses, table_step, table_by}
-use Rattle.wi_scenarios.proofs.StepLemmas.{no_other}
-use Rattle.wi_cli.proofs.Ties.Cells.{lies_out, read_cell, read_area, inside}
+use Rattle.wi_scenarios.specs.Commands.Operands.{corners}
+use Rattle.wi_scenarios.proofs.FillSteps.{fill_of}
+
+abbrev pub lies_out : CornerCells → Bool
+lies_out r = is_outside r.0 || is_outside r.1
+
+abbrev pub read_cell : Cell → Result ℕ AddressFault
+read_cell c = read_by (is_outside c) (address c)
+
+abbrev pub read_area : CornerCells → Result Area AddressFault
+read_area r = read_by (lies_out r) (area r)
+
+pub inside : (c : Cell) → is_outside c ≡ false → c.column < columns
+inside c e = grind (arith, nat_tests)
+
+abbrev cell_in : ℕ → ℕ → Cell
+cell_in row column = record { row = row; column = column }
+
+-- it is that of its address
+pub cell_again : (c : Cell) → is_outside c ≡ false → cell (address c) ≡ c
+cell_again c e = ap₂ cell_in (row_of_place c.row c.column (inside c e)) (column_of_place c.row c.column (inside c e))
+
+-- ---- as what `table` is read, with one input and with two, and its step
 
 -- ---- faults of operands, one after another
 
@@ -49,9 +64,8 @@ outside_next (Some AtOutside ∷ os) h k = by (list_any is_out os) refl (λ j. o
     by false e more = ap (worse (Some AtOutside)) (none_bad os h e)
 
 last_one : (o : Option AddressFault) → o ≡ worse o None
-last_one None = refl
 last_one (Some Shape) = refl
-last_one (Some AtOutside) = refl
+last_one o = refl
 
 cell_shape : (b : Bool) (a : ℕ) → is_shape (result_err (read_by b a)) ≡ false
 cell_shape true a = refl
@@ -73,19 +87,6 @@ shape_out false = refl
 line_out : (is_line : Area → Bool) (b : Bool) (a : Area) → is_out (line_fault is_line (read_by b a)) ≡ b
 line_out is_line true a = refl
 line_out is_line false a = shape_out (is_line a)
-
--- whether these faults pass a test, one by one
-abbrev AreTested : (Option AddressFault → Bool) → List (Option AddressFault) → List Bool → Type 0
-AreTested test [] [] = Unit {0}
-AreTested test (o ∷ os) (b ∷ bs) = (test o ≡ b) × AreTested test os bs
-AreTested test [] (b ∷ bs) = ⊥
-AreTested test (o ∷ os) [] = ⊥
-
-any_is : (test : Option AddressFault → Bool) (os : List (Option AddressFault)) (bs : List Bool) → AreTested test os bs → list_any test os ≡ list_any (λ b. b) bs
-any_is test [] [] h = refl
-any_is test (o ∷ os) (b ∷ bs) h = ap₂ ◌||◌ h.0 (any_is test os bs h.1)
-any_is test [] (b ∷ bs) h = absurd h
-any_is test (o ∷ os) [] h = absurd h
 
 -- a table of these operands, with a second input and its row or without, by the worst of their faults
 abbrev pub faults_behind : Option (Result ℕ AddressFault × Result Area AddressFault) → List (Option AddressFault)
@@ -177,26 +178,21 @@ module _ (f r : Cell) (xs : CornerCells) where
   abbrev is_many : Option (Cell × CornerCells) → Bool
   is_many y = nat_lt max_area (cells_asked (form (Table f r xs y)))
 
+  column_shape : is_shape (line_fault is_column (read_area xs)) ≡ (not (lies_out xs) && not (xs.0.column == xs.1.column))
+  column_shape = line_shape is_column (lies_out xs) (xs.0.column == xs.1.column) (area xs) (column_is xs)
+
   shapes : (y : Option (Cell × CornerCells)) → list_any is_shape (faults_of y) ≡ is_misshaped xs y
-  shapes None =
-      let u = not (lies_out xs) && not (xs.0.column == xs.1.column) in
-      any_is is_shape (faults_of None) (false ∷ false ∷ u ∷ [])
-      (cell_shape (is_outside f) (address f), (cell_shape (is_outside r) (address r), (line_shape is_column (lies_out xs) (xs.0.column == xs.1.column) (area xs) (column_is xs), tt)))
-      ∙ or-false u
+  shapes None = ap₂ ◌||◌ (cell_shape (is_outside f) (address f)) (ap₂ ◌||◌ (cell_shape (is_outside r) (address r)) (or-false _ ∙ column_shape))
   shapes (Some y) =
-      let u = not (lies_out xs) && not (xs.0.column == xs.1.column) in
-      let v = not (lies_out y.1) && not (y.1.0.row == y.1.1.row) in
-      any_is is_shape (faults_of (Some y)) (false ∷ false ∷ u ∷ false ∷ v ∷ [])
-      (cell_shape (is_outside f) (address f), (cell_shape (is_outside r) (address r), (line_shape is_column (lies_out xs) (xs.0.column == xs.1.column) (area xs) (column_is xs), (cell_shape (is_outside y.0) (address y.0), (line_shape is_row (lies_out y.1) (y.1.0.row == y.1.1.row) (area y.1) (row_is y.1), tt)))))
-      ∙ ap (λ (b : Bool). u || b) (or-false v)
+      ap₂ ◌||◌ (cell_shape (is_outside f) (address f)) (ap₂ ◌||◌ (cell_shape (is_outside r) (address r)) (ap₂ ◌||◌ column_shape (ap₂ ◌||◌ (cell_shape (is_outside y.0) (address y.0))
+      (or-false _ ∙ line_shape is_row (lies_out y.1) (y.1.0.row == y.1.1.row) (area y.1) (row_is y.1)))))
 
   outs : (y : Option (Cell × CornerCells)) → list_any is_out (faults_of y) ≡ out y
   outs None =
-      any_is is_out (faults_of None) (is_outside f ∷ is_outside r ∷ lies_out xs ∷ [])
-      (cell_out (is_outside f) (address f), (cell_out (is_outside r) (address r), (line_out is_column (lies_out xs) (area xs), tt)))
+      ap₂ ◌||◌ (cell_out (is_outside f) (address f)) (ap₂ ◌||◌ (cell_out (is_outside r) (address r)) (ap (λ (b : Bool). b || false) (line_out is_column (lies_out xs) (area xs))))
   outs (Some y) =
-      any_is is_out (faults_of (Some y)) (is_outside f ∷ is_outside r ∷ lies_out xs ∷ is_outside y.0 ∷ lies_out y.1 ∷ [])
-      (cell_out (is_outside f) (address f), (cell_out (is_outside r) (address r), (line_out is_column (lies_out xs) (area xs), (cell_out (is_outside y.0) (address y.0), (line_out is_row (lies_out y.1) (area y.1), tt)))))
+      ap₂ ◌||◌ (cell_out (is_outside f) (address f)) (ap₂ ◌||◌ (cell_out (is_outside r) (address r)) (ap₂ ◌||◌ (line_out is_column (lies_out xs) (area xs))
+      (ap₂ ◌||◌ (cell_out (is_outside y.0) (address y.0)) (ap (λ (b : Bool). b || false) (line_out is_row (lies_out y.1) (area y.1))))))
 
   -- none of them is outside
   inside_of : (rest : Bool) → (is_outside f || (is_outside r || (lies_out xs || rest))) ≡ false → (is_outside f ≡ false) × (is_outside r ≡ false) × (lies_out xs ≡ false) × (rest ≡ false)
@@ -228,10 +224,10 @@ module _ (f r : Cell) (xs : CornerCells) where
   table_read y = by_operands y (is_misshaped xs y) (out y) refl refl
 
   -- a step of a table of the sheet
-  spans : (y : Option (Cell × CornerCells)) → IsTablePlaced (address f) (address r) (area xs) (addresses y) → (not (is_column (area xs)) || not (has_row (addresses y))) ≡ is_misshaped xs y
+  table_placed : (y : Option (Cell × CornerCells)) → IsTablePlaced (address f) (address r) (area xs) (addresses y) → (not (is_column (area xs)) || not (has_row (addresses y))) ≡ is_misshaped xs y
       → nat_lt max_area (entries (area xs) (addresses y)) ≡ is_many y → (s : State) → out y ≡ false → (a : Answer)
       → IsStep s (Table (cell (address f)) (cell (address r)) (corners (area xs)) (second_input (addresses y))) a → IsStep s (Table f r xs y) a
-  spans y all eb el s eo a h =
+  table_placed y all eb el s eo a h =
       subst (λ (x : Answer). IsStep s (Table f r xs y) x)
       (no_other s (Table (cell (address f)) (cell (address r)) (corners (area xs)) (second_input (addresses y))) _ a (table_by s (address f) (address r) (area xs) (addresses y) all (is_misshaped xs y) (is_many y) eb el) h)
       (table_step s f r xs y (is_misshaped xs y) false (is_many y) refl eo refl)
@@ -239,12 +235,52 @@ module _ (f r : Cell) (xs : CornerCells) where
   pub table_spans : (y : Option (Cell × CornerCells)) (s : State) → out y ≡ false → (a : Answer) → IsStep s (placed (Table f r xs y)) a → IsStep s (Table f r xs y) a
   table_spans None s e a h =
       let k = inside_of false e in
-      spans None (record { formula_cell = placed_again f k.0; input = placed_again r k.1; column = spanned_again xs k.2; second = tt })
+      table_placed None (record { formula_cell = placed_again f k.0; input = placed_again r k.1; column = spanned_again xs k.2; second = tt })
       (ap (λ (b : Bool). not b || false) (column_is xs k.2) ∙ or-false (not (xs.0.column == xs.1.column)) ∙ ap (λ (b : Bool). not b && not (xs.0.column == xs.1.column)) (sym k.2)) refl s e a h
   table_spans (Some y) s e a h =
       let k = inside_of (is_outside y.0 || (lies_out y.1 || false)) e in
       let l = second_inside y.0 y.1 k.3 in
-      spans (Some y) (record { formula_cell = placed_again f k.0; input = placed_again r k.1; column = spanned_again xs k.2; second = (placed_again y.0 l.0, spanned_again y.1 l.1) })
+      table_placed (Some y) (record { formula_cell = placed_again f k.0; input = placed_again r k.1; column = spanned_again xs k.2; second = (placed_again y.0 l.0, spanned_again y.1 l.1) })
       (ap₂ (λ (a b : Bool). not a || not b) (column_is xs k.2) (row_is y.1 l.1)
       ∙ ap₂ (λ (a b : Bool). (not a && not (xs.0.column == xs.1.column)) || (not b && not (y.1.0.row == y.1.1.row))) (sym k.2) (sym l.1))
       (ap (λ (n : ℕ). nat_lt max_area (size_of (area xs) * n)) (once (size_of (area y.1)))) s e a h
+
+-- ---- where its operands lie in the sheet a command has the answers of the one that is read
+
+module _ (s : State) where
+  -- where one answer is that of both
+  same_answer : (c d : Command) (found : Answer) → IsStep s c found → IsStep s d found → (a : Answer) → IsStep s d a → IsStep s c a
+  same_answer c d found h k a l = subst (IsStep s c) (no_other s d found a k l) h
+
+  set_in : (f : Bool) (at : Cell) (text : Bytes) → list_any lies_outside (form (Set f at text)) ≡ false → is_outside at ≡ false
+  set_in true at text e = (or_parts (is_outside at) false e).0
+  set_in false at text e = (or_parts (is_outside at) false e).0
+
+  pub spans : (c : Command) → list_any lies_outside (form c) ≡ false → (a : Answer) → IsStep s (placed c) a → IsStep s c a
+  spans (Set force at text) e a h = subst (λ (x : Cell). IsStep s (Set force x text) a) (cell_again at (set_in force at text e)) h
+  spans (Clear force r) e a h =
+      let o : lies_out r ≡ false = sym (clear_outside force (lies_out r) r refl) ∙ e in
+      same_answer (Clear force r) (Clear force (corners (area r))) (cleared s force (area r)) (clear_step s force r false o) (clear_of s force (area r) (spanned_again r o)) a h
+  spans (Fill force c r) e a h =
+      let o = or_parts (is_outside c) (lies_out r) (sym (fill_outside force (is_outside c) (lies_out r) c r refl refl) ∙ e) in
+      let large = nat_lt max_area (size_of (area r)) in
+      let out = leaves s (address c) (area r) in
+      same_answer (Fill force c r) (placed (Fill force c r)) (filled_by s force large out (fill_edit s.stored.sheet (address c) (area r))) (fill_step s force c r o.0 o.1 large out refl refl)
+      (fill_of s force (address c) (area r) (placed_again c o.0) (spanned_again r o.1) large out refl refl) a h
+  spans (Scenario name at text) e a h = subst (λ (x : Cell). IsStep s (Scenario name x text) a) (cell_again at (or_parts (is_outside at) false e).0) h
+  spans (Show r) e a h =
+      let o : lies_out r ≡ false = (or_parts (lies_out r) false e).0 in
+      same_answer (Show r) (Show (corners (area r))) (area_answer false (is_large r) false (shown_in s r (area r))) (show_step s r false (is_large r) o refl) (show_of s (area r) (spanned_again r o) (is_large r) refl) a h
+  spans (Export r) e a h =
+      let o : lies_out r ≡ false = (or_parts (lies_out r) false e).0 in
+      same_answer (Export r) (Export (corners (area r))) (area_answer false (is_large r) false (exported_in s r (area r))) (export_step s r false (is_large r) o refl)
+      (export_of_area s (area r) (spanned_again r o) (is_large r) refl) a h
+  spans (Compare p q r) e a h =
+      let o : lies_out r ≡ false = (or_parts (lies_out r) false e).0 in
+      let lacking = lacks s.scenarios p || lacks s.scenarios q in
+      same_answer (Compare p q r) (Compare p q (corners (area r))) (area_answer false (is_large r) lacking (compared_in s r p q (area r))) (compare_step s r false (is_large r) o refl p q lacking refl)
+      (compare_of s (area r) (spanned_again r o) (is_large r) refl p q lacking refl) a h
+  spans (Table f r xs None) e a h = table_spans f r xs None s e a h
+  spans (Table f r xs (Some y)) e a h = table_spans f r xs (Some y) s e a h
+  spans (Formula at) e a h = subst (λ (x : Cell). IsStep s (Formula x) a) (cell_again at (or_parts (is_outside at) false e).0) h
+  spans c e a h = h
