@@ -367,17 +367,16 @@ fn take_called(operator: Operator, x: &Fraction, y: &Fraction, number: &mut Frac
 }
 
 /// The number of an operator between two numbers, if it gives one. It takes a call.
-#[inline(never)]
+#[inline(always)]
 fn called_number(operator: Operator, x: &Fraction, y: &Fraction) -> Option<Fraction>
     ensures { IfSome result (λ z. operators.operate operator
         (Values.Number x.now) (Values.Number y.now) ≡ Values.Number z) }
 {
-    match operator {
-        Operator::Add => given_number(add(*x, *y)),
-        Operator::Subtract => given_number(subtract(*x, *y)),
-        Operator::Multiply => given_number(multiply(*x, *y)),
-        Operator::Divide => given_number(divide(*x, *y)),
-        _ => None,
+    let mut number = zero();
+    if take_called(operator, x, y, &mut number) {
+        Some(number)
+    } else {
+        None
     }
 }
 
