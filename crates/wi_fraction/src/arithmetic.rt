@@ -10,7 +10,7 @@ ghost use Rattle.wi_fraction.specs.Inner.Bounds.{bounded, int_bounded};
 use crate::division::{divide, gcd};
 use crate::lowest_terms::{integer, number_at, reduced};
 use crate::words::Parts;
-use crate::{Fraction, FractionError, MAX, SMALL};
+use crate::{Fraction, FractionError, HALF, MAX, SMALL};
 
 impl Fraction {
     /// The sum, which overflows where the least common multiple of the denominators, a numerator scaled to it, or
@@ -57,9 +57,7 @@ impl Fraction {
             denominator: d,
         } = other.parts();
         if b == 1 && d == 1 {
-            return whole_product((a < 0) != (c < 0), a.unsigned_abs(), c.unsigned_abs()).ok_or(
-                FractionError::Overflow,
-            );
+            return self.product_of_wholes(other).ok_or(FractionError::Overflow);
         }
         multiplied((a < 0) != (c < 0), a.unsigned_abs(), b, c.unsigned_abs(), d).ok_or(
             FractionError::Overflow,
@@ -105,6 +103,21 @@ impl Fraction {
     {
         let total = total(self.parts().numerator, other.parts().numerator)?;
         Some(integer(total))
+    }
+
+    /// The product of two whole numbers.
+    #[inline(always)]
+    fn product_of_wholes(self, other: Fraction) -> Option<Fraction>
+        requires first { self.den ≡ 1 }
+        requires second { other.den ≡ 1 }
+        ensures { result ≡ product_of self other }
+    {
+        let a = self.parts().numerator;
+        let b = other.parts().numerator;
+        match half_product(a, b) {
+            Some(product) => Some(integer(product)),
+            None => whole_product((a < 0) != (b < 0), a.unsigned_abs(), b.unsigned_abs()),
+        }
     }
 
     #[inline(always)]
@@ -185,8 +198,28 @@ pub(crate) fn multiplied(negative: bool, a: u128, b: u128, c: u128, d: u128) -> 
     cancelled_product(negative, a, b, c, d)
 }
 
-/// The product of two whole numbers with that sign.
+/// The product of two numerators, where both are so small that it can't be too large: found with few tests.
 #[inline(always)]
+fn half_product(a: i128, b: i128) -> Option<i128>
+    ensures { IfSome result (λ c. (c ≡ a *ℤ b) × (unsigned_abs c ≤ max_size)) }
+{
+    if is_half(a) && is_half(b) {
+        Some(a * b)
+    } else {
+        None
+    }
+}
+
+/// Whether a numerator has at most half as many bits as one may have.
+#[inline(always)]
+fn is_half(n: i128) -> bool
+    ensures { IsTrue result → unsigned_abs n ≤ 2 ^ 63 }
+{
+    -HALF <= n && n < HALF
+}
+
+/// The product of two whole numbers with that sign.
+#[inline(never)]
 fn whole_product(negative: bool, a: u128, b: u128) -> Option<Fraction>
     ensures { result ≡ number_of (with_minus negative (a * b)) 1 }
 {

@@ -17,6 +17,9 @@ use wi_parser::{Operator, Sign};
 use wi_value_functions::{LazyFunction, add, divide, multiply, subtract, zero};
 use wi_values::{ErrorKind, Value};
 
+/// The product of two numerators of at most this size fits.
+const SHORT: i128 = 1 << 63;
+
 /// Takes the number that a placed expression gives, where it and all that it rests on are numbers, and IF's conditions
 /// comparisons of them. Any other is left, as one whose number doesn't fit, and then the number is of no use. Operators
 /// between what is there take no call.
@@ -35,7 +38,7 @@ pub(crate) fn take_number(placed: &Placed, values: &[Value], number: &mut Fracti
 }
 
 /// The number of a placed expression that is an operator between constants or places, if it gives one: without a call
-/// where it is the sum or the difference of two whole numbers.
+/// where it is the sum, the difference or a short product of two whole numbers.
 #[inline(always)]
 pub(crate) fn number_at_hand(placed: &Placed, values: &[Value]) -> Option<Fraction>
     ensures { IfSome result (λ x. placed_value placed.now values.now ≡ Values.Number x) }
@@ -62,8 +65,8 @@ fn operated_at_hand(
 {
     let x = lent_number(left, values)?;
     let y = lent_number(right, values)?;
-    match whole_sum(operator, x, y) {
-        Some(sum) => Some(sum),
+    match whole_result(operator, x, y) {
+        Some(whole) => Some(whole),
         None => called_number(operator, x, y),
     }
 }
@@ -165,9 +168,9 @@ fn take_right_parts(
     if !take_number(right, values, number) {
         return false;
     }
-    match whole_sum(operator, x, number) {
-        Some(sum) => {
-            *number = sum;
+    match whole_result(operator, x, number) {
+        Some(whole) => {
+            *number = whole;
             true
         }
         None => take_over(operator, x, number),
@@ -306,9 +309,9 @@ fn take_operated(operator: Operator, x: &Fraction, y: &Fraction, number: &mut Fr
     ensures { OnTrue result (operators.operate operator
         (Values.Number x.now) (Values.Number y.now) ≡ Values.Number number.new) }
 {
-    match whole_sum(operator, x, y) {
-        Some(sum) => {
-            *number = sum;
+    match whole_result(operator, x, y) {
+        Some(whole) => {
+            *number = whole;
             true
         }
         None => take_called(operator, x, y, number),
@@ -325,9 +328,10 @@ fn take_over(operator: Operator, x: &Fraction, number: &mut Fraction) -> bool
     take_called(operator, x, &y, number)
 }
 
-/// The sum or the difference of two whole numbers, if the operator gives it and it fits.
+/// The sum, the difference or the product of two whole numbers, if the operator gives it, it fits, and those that are
+/// multiplied are short.
 #[inline(always)]
-fn whole_sum(operator: Operator, x: &Fraction, y: &Fraction) -> Option<Fraction>
+fn whole_result(operator: Operator, x: &Fraction, y: &Fraction) -> Option<Fraction>
     ensures { IfSome result (λ z. operators.operate operator
         (Values.Number x.now) (Values.Number y.now) ≡ Values.Number z) }
 {
@@ -344,6 +348,12 @@ fn whole_sum(operator: Operator, x: &Fraction, y: &Fraction) -> Option<Fraction>
             }
             given_number(subtract(*x, *y))
         }
+        Operator::Multiply => {
+            if !are_whole(x, y) || !is_short(x) || !is_short(y) {
+                return None;
+            }
+            given_number(multiply(*x, *y))
+        }
         _ => None,
     }
 }
@@ -352,6 +362,12 @@ fn whole_sum(operator: Operator, x: &Fraction, y: &Fraction) -> Option<Fraction>
 #[inline(always)]
 fn are_whole(x: &Fraction, y: &Fraction) -> bool {
     x.denominator() == 1 && y.denominator() == 1
+}
+
+/// Whether a numerator has so few bits that its product with another such one fits.
+#[inline(always)]
+fn is_short(x: &Fraction) -> bool {
+    -SHORT <= x.numerator() && x.numerator() < SHORT
 }
 
 /// As `take_operated`, by a call.

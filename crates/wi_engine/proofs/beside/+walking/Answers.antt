@@ -1,4 +1,4 @@
-use Rattle.wi_engine.proofs.Words.{sym, IfOk-weaker}
+use Rattle.wi_engine.proofs.Words.{◌≡◌, Some, slice_get, sym, IfOk-weaker, rules}
 use Rattle.wi_parser.specs.View.{tree_of, all_of}
 use Rattle.wi_functions.proofs.Parameters.{call_found}
 use Rattle.wi_engine.specs.Inner.Sure.{FirstIsSure, IsOneSure, IsSure}
@@ -28,6 +28,7 @@ push_sure_of_all-loop-expr-preserved t c =
 pub push_sure_of_first-returns-in-Some : goal.push_sure_of_first-returns-in-Some
 push_sure_of_first-returns-in-Some t c =
     let e = c.in-Some.first.now in
+    let first : Some e ≡ slice_get c.args.exprs.now 0 = search rules in
     IfOk-weaker c.push_sure.result _ _
     (λ x. listed_wider c.args.store.now.sheet c.args.frame.now (IsSure (tree_of e)) (FirstIsSure (all_of c.args.exprs.now)) c.args.cells.now.items c.push_sure.new.cells.items
-    (λ d. first_sure c.args.exprs.now e d c.in-Some.ensures.value)) c.push_sure.ensures
+    (λ d. first_sure c.args.exprs.now e d first)) c.push_sure.ensures
