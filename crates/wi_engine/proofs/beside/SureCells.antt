@@ -1,5 +1,5 @@
 -- The cells that each evaluation asks for, as they are listed.
-use Rattle.wi_engine.proofs.Words.{◌≡◌, ◌==◌, ◌<◌, ℕ, zero, suc, Bool, true, false, ◌||◌, List, [], ◌∷◌, ◌++◌, inl, inr, ◌⊎◌, refl, ap, sym, ◌∙◌, subst, arith, true≢false, eq-eqb, or_left, or_right, or_cases, and_parts, length, slice_get, Some, list_any, list_any-append, Sheet, content_of, put_all, has_formula, put_formula, Tree, TreeAsks, Cell, asked_cell, is_one_of, same_cell, lacks_cell, reads_here, Frame}
+use Rattle.wi_engine.proofs.Words.{◌≡◌, ◌==◌, ◌<◌, ℕ, zero, suc, Bool, true, false, ◌||◌, List, [], ◌∷◌, ◌++◌, inl, inr, ◌⊎◌, refl, ap, sym, ◌∙◌, subst, arith, true≢false, eq-eqb, or_left, or_right, or_cases, and_parts, length, slice_get, Some, list_any-append, Sheet, content_of, put_all, has_formula, put_formula, Tree, TreeAsks, Cell, asked_cell, is_one_of, same_cell, lacks_cell, reads_here, Frame}
 use Rattle.std.proofs.Common.{slice_index_or}
 use Rattle.wi_parser.specs.declared.expr.Expr.{Expr}
 use Rattle.wi_parser.specs.View.{tree_of, all_of}
