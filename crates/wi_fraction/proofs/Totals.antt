@@ -1,5 +1,5 @@
 -- A sum over a denominator that needn't be the least: where its parts aren't too large, those of the sum in lowest terms aren't either.
-use Rattle.wi_fraction.proofs.Vocabulary.{◌≡◌, ℕ, zero, suc, ◌*◌, ◌/◌, ◌%◌, ◌<◌, ◌≤◌, ℤ, pos, ◌+ℤ◌, ◌*ℤ◌, unsigned_abs, int_div, int_lt, Option, Some, None, unwrap_or, refl, ◌∣◌, sym, ap, ◌∙◌, subst, arith, nat_tests, mul_comm, mul_right_comm, div-mul_cancel, div_self, div-le_self, dvd_refl, dvd-mul_left, dvd-mul_right, dvd_of_mul-dvd-mul_right, mul-dvd-mul_right, pos_of_dvd_of_pos, gcd, is_gcd, dvd_of_dvd-mul, dvd_of_mod-eq-zero, unsigned_abs-mul, with_minus, Number, number_of, max_size, number_at-some, number_at-is, bounded, int_bounded, sum_of, mul-mul, turn, AreParts, number_over}
+use Rattle.wi_fraction.proofs.Vocabulary.{◌≡◌, ℕ, zero, suc, ◌*◌, ◌/◌, ◌%◌, ◌^◌, ◌<◌, ◌≤◌, ℤ, pos, ◌+ℤ◌, ◌*ℤ◌, unsigned_abs, int_div, int_lt, Option, Some, None, unwrap_or, refl, ◌∣◌, sym, ap, ◌∙◌, subst, arith, nat_tests, mul_comm, mul_right_comm, div-mul_cancel, div_self, div-le_self, dvd_refl, dvd-mul_left, dvd-mul_right, dvd_of_mul-dvd-mul_right, mul-dvd-mul_right, pos_of_dvd_of_pos, gcd, is_gcd, dvd_of_dvd-mul, dvd_of_mod-eq-zero, unsigned_abs-mul, with_minus, Number, number_of, max_size, number_at-some, number_at-is, bounded, int_bounded, sum_of, mul-mul, turn, AreParts, number_over}
 use Rattle.std.specs.Prelude.{IfSome}
 use Rattle.wi_fraction.specs.Inner.Totals.{IsSumOver, zero_is}
 use Rattle.wi_fraction.proofs.Divisors.{gcd_pos, div_gcd_pos, coprime_divided, divided_dvd_second}
@@ -121,6 +121,13 @@ scaled_sum n d y x rest q c (Some m) p same r none e ce oe =
     let c_is : c ≡ x.num *ℤ pos (d / x.den) = cw.0 ∙ ap (λ k. x.num *ℤ pos k) e in
     let fits : unsigned_abs (x.num *ℤ pos (d / x.den)) ≤ max_size = subst (λ k. unsigned_abs (x.num *ℤ pos k) ≤ max_size) e cw.1 in
     subst (λ (z : Number). IsSumOver n d z m) same (sum_with_parts n d x m p divides fits (mw.0 ∙ ap (λ v. n +ℤ v) c_is) (subst (λ v. unsigned_abs v ≤ max_size) (sym mw.0) mw.1))
+
+-- and of small ones
+pub small_scaled : (n : ℤ) (d : ℕ) (y x : Number) (q : ℕ) (c : ℤ) (o : Option ℤ) → AreParts n d → x ≡ y → q ≡ d / x.den → d % x.den ≡ 0 → c ≡ x.num *ℤ pos q → unsigned_abs c ≤ 2 ^ 126 → IfSome o (λ m. Some m ≡ int_bounded (n +ℤ c)) → IfSome o (IsSumOver n d y)
+small_scaled n d y x q c None p same e none is small oe = tt
+small_scaled n d y x q c (Some m) p same e none is small oe =
+    let fits : unsigned_abs c ≤ max_size = omega (arith, small) in
+    scaled_sum n d y x (d % x.den) q c (Some m) p same refl none e (subst (λ z. Some c ≡ int_bounded z) is (int_bounded-from c fits)) oe
 
 pub like_sum : (n : ℤ) (d : ℕ) (y x : Number) (o : Option ℤ) → AreParts n d → x ≡ y → x.den ≡ d → o ≡ int_bounded (n +ℤ x.num) → IfSome o (IsSumOver n d y)
 like_sum n d y x None p same e oe = tt

@@ -279,6 +279,26 @@ pub(crate) fn small_total(a: i128, b: i128) -> Option<i128>
     }
 }
 
+/// The multiple of a numerator, where both fit 64 bits.
+#[inline(always)]
+pub(crate) fn small_multiple(n: i128, by: u64) -> Option<i128>
+    ensures { IfSome result (λ m. (m ≡ n *ℤ pos by) × (unsigned_abs m ≤ 2 ^ 126)) }
+{
+    match (i64::try_from(n), i64::try_from(by)) {
+        (Ok(n), Ok(by)) => Some(i128::from(n) * i128::from(by)),
+        _ => None,
+    }
+}
+
+/// As `small_total`, where the second is at most half as large as a numerator may be.
+#[inline(always)]
+pub(crate) fn total_with_small(a: i128, b: i128) -> Option<i128>
+    requires { unsigned_abs b ≤ 2 ^ 126 }
+    ensures { IfSome result (λ c. Some c ≡ int_bounded (a +ℤ b)) }
+{
+    if is_small(a) { Some(a + b) } else { None }
+}
+
 /// Whether a numerator is at most a quarter as large as one may be.
 #[inline(always)]
 fn is_small(n: i128) -> bool

@@ -1,6 +1,6 @@
 // Division of whole numbers, in 64 bits where both fit.
 
-ghost use Rattle.std.specs.Prelude.{◌≡◌, ◌/◌, ◌%◌, ◌<◌};
+ghost use Rattle.std.specs.Prelude.{◌≡◌, ◌/◌, ◌%◌, ◌<◌, IfSome};
 ghost use Rattle.wi_fraction.specs.Gcd.{gcd};
 
 /// The greatest common divisor, by Euclid's algorithm.
@@ -37,5 +37,17 @@ pub(crate) fn remainder(a: u128, b: u128) -> u128
     match (u64::try_from(a), u64::try_from(b)) {
         (Ok(a), Ok(b)) => u128::from(a % b),
         _ => a % b,
+    }
+}
+
+/// a/b, where both fit 64 bits and b divides a.
+#[inline(always)]
+pub(crate) fn small_quotient(a: u128, b: u128) -> Option<u64>
+    requires { 0 < b }
+    ensures { IfSome result (λ q. (q ≡ a / b) × (a % b ≡ 0)) }
+{
+    match (u64::try_from(a), u64::try_from(b)) {
+        (Ok(a), Ok(b)) => { if a % b == 0 { Some(a / b) } else { None } }
+        _ => None,
     }
 }

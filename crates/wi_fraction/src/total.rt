@@ -4,8 +4,8 @@ ghost use Rattle.std.specs.Prelude.{◌≡◌, OnOk, OnErr, IfErr, IfSome, Some,
 ghost use Rattle.wi_fraction.specs.Arithmetic.{sum_of};
 ghost use Rattle.wi_fraction.specs.Inner.Totals.{AreParts, IsSumOver};
 
-use crate::arithmetic::{scaled, small_total, total};
-use crate::division::{divide, remainder};
+use crate::arithmetic::{scaled, small_multiple, small_total, total, total_with_small};
+use crate::division::{divide, remainder, small_quotient};
 use crate::lowest_terms::reduced;
 use crate::words::{Parts, Signed, Unsigned};
 use crate::{Fraction, FractionError};
@@ -73,6 +73,23 @@ impl Total {
         ensures err { OnErr result (sum_of self.old other.now ≡ None) }
         ensures same { OnErr result (self.new ≡ self.old) }
     {
+        match small_scaled_sum(self.numerator.get(), self.denominator.get(), other) {
+            Some(numerator) => {
+                self.numerator = Signed::new(numerator);
+                Ok(())
+            }
+            None => self.add_large(other),
+        }
+    }
+
+    /// As `add_any`, of a large number or one over another denominator.
+    #[inline(never)]
+    fn add_large(&mut self, other: &Fraction) -> Result<(), FractionError>
+        ensures ok { OnOk result (sum_of self.old other.now ≡ Some self.new) }
+        ensures overflow { IfErr result (λ e. e ≡ FractionError.Overflow) }
+        ensures err { OnErr result (sum_of self.old other.now ≡ None) }
+        ensures same { OnErr result (self.new ≡ self.old) }
+    {
         match numerator_with(self.numerator.get(), self.denominator.get(), other) {
             Some(numerator) => {
                 self.numerator = Signed::new(numerator);
@@ -125,6 +142,21 @@ fn small_sum(n: i128, d: u128, other: &Fraction) -> Option<i128>
     } else {
         None
     }
+}
+
+/// The numerator of the sum of n/d and a number, over d, where the number's denominator divides d and all parts are
+/// small: found with one division.
+#[inline(always)]
+fn small_scaled_sum(n: i128, d: u128, other: &Fraction) -> Option<i128>
+    requires { AreParts n d }
+    ensures { IfSome result (λ m. IsSumOver n d other.now m) }
+{
+    let Parts {
+        numerator,
+        denominator,
+    } = other.parts();
+    let by = small_quotient(d, denominator)?;
+    total_with_small(n, small_multiple(numerator, by)?)
 }
 
 /// The numerator of the sum of n/d and a number, over d, where the number's denominator divides d and no part of it is
