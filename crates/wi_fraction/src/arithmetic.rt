@@ -10,7 +10,7 @@ ghost use Rattle.wi_fraction.specs.Inner.Bounds.{bounded, int_bounded};
 use crate::division::{divide, gcd};
 use crate::lowest_terms::{integer, number_at, reduced};
 use crate::words::Parts;
-use crate::{Fraction, FractionError, HALF, MAX, SMALL};
+use crate::{Fraction, FractionError, MAX, SMALL};
 
 impl Fraction {
     /// The sum, which overflows where the least common multiple of the denominators, a numerator scaled to it, or
@@ -114,7 +114,7 @@ impl Fraction {
     {
         let a = self.parts().numerator;
         let b = other.parts().numerator;
-        match half_product(a, b) {
+        match short_product(a, b) {
             Some(product) => Some(integer(product)),
             None => whole_product((a < 0) != (b < 0), a.unsigned_abs(), b.unsigned_abs()),
         }
@@ -198,24 +198,15 @@ pub(crate) fn multiplied(negative: bool, a: u128, b: u128, c: u128, d: u128) -> 
     cancelled_product(negative, a, b, c, d)
 }
 
-/// The product of two numerators, where both are so small that it can't be too large: found with few tests.
+/// The product of two whole numbers, where both fit 64 bits.
 #[inline(always)]
-fn half_product(a: i128, b: i128) -> Option<i128>
-    ensures { IfSome result (λ c. (c ≡ a *ℤ b) × (unsigned_abs c ≤ max_size)) }
+pub(crate) fn short_product(a: i128, b: i128) -> Option<i128>
+    ensures { IfSome result (λ c. (c ≡ a *ℤ b) × (unsigned_abs c ≤ 2 ^ 126)) }
 {
-    if is_half(a) && is_half(b) {
-        Some(a * b)
-    } else {
-        None
+    match (i64::try_from(a), i64::try_from(b)) {
+        (Ok(a), Ok(b)) => Some(i128::from(a) * i128::from(b)),
+        _ => None,
     }
-}
-
-/// Whether a numerator has at most half as many bits as one may have.
-#[inline(always)]
-fn is_half(n: i128) -> bool
-    ensures { IsTrue result → unsigned_abs n ≤ 2 ^ 63 }
-{
-    -HALF <= n && n < HALF
 }
 
 /// The product of two whole numbers with that sign.
@@ -276,17 +267,6 @@ pub(crate) fn small_total(a: i128, b: i128) -> Option<i128>
         Some(a + b)
     } else {
         None
-    }
-}
-
-/// The multiple of a numerator, where both fit 64 bits.
-#[inline(always)]
-pub(crate) fn small_multiple(n: i128, by: u64) -> Option<i128>
-    ensures { IfSome result (λ m. (m ≡ n *ℤ pos by) × (unsigned_abs m ≤ 2 ^ 126)) }
-{
-    match (i64::try_from(n), i64::try_from(by)) {
-        (Ok(n), Ok(by)) => Some(i128::from(n) * i128::from(by)),
-        _ => None,
     }
 }
 

@@ -4,7 +4,7 @@ ghost use Rattle.std.specs.Prelude.{◌≡◌, OnOk, OnErr, IfErr, IfSome, Some,
 ghost use Rattle.wi_fraction.specs.Arithmetic.{sum_of};
 ghost use Rattle.wi_fraction.specs.Inner.Totals.{AreParts, IsSumOver};
 
-use crate::arithmetic::{scaled, small_multiple, small_total, total, total_with_small};
+use crate::arithmetic::{scaled, short_product, small_total, total, total_with_small};
 use crate::division::{divide, remainder, small_quotient};
 use crate::lowest_terms::reduced;
 use crate::words::{Parts, Signed, Unsigned};
@@ -156,7 +156,7 @@ fn small_scaled_sum(n: i128, d: u128, other: &Fraction) -> Option<i128>
         denominator,
     } = other.parts();
     let by = small_quotient(d, denominator)?;
-    total_with_small(n, small_multiple(numerator, by)?)
+    total_with_small(n, short_product(numerator, i128::from(by))?)
 }
 
 /// The numerator of the sum of n/d and a number, over d, where the number's denominator divides d and no part of it is

@@ -17,9 +17,6 @@ use wi_parser::{Operator, Sign};
 use wi_value_functions::{LazyFunction, add, divide, multiply, subtract, zero};
 use wi_values::{ErrorKind, Value};
 
-/// The product of two numerators of at most this size fits.
-const SHORT: i128 = 1 << 63;
-
 /// Takes the number that a placed expression gives, where it and all that it rests on are numbers, and IF's conditions
 /// comparisons of them. Any other is left, as one whose number doesn't fit, and then the number is of no use. Operators
 /// between what is there take no call.
@@ -364,10 +361,10 @@ fn are_whole(x: &Fraction, y: &Fraction) -> bool {
     x.denominator() == 1 && y.denominator() == 1
 }
 
-/// Whether a numerator has so few bits that its product with another such one fits.
+/// Whether a numerator fits 64 bits, so that its product with another such one is found with no test.
 #[inline(always)]
 fn is_short(x: &Fraction) -> bool {
-    -SHORT <= x.numerator() && x.numerator() < SHORT
+    i64::try_from(x.numerator()).is_ok()
 }
 
 /// As `take_operated`, by a call.

@@ -1,4 +1,4 @@
-use Rattle.wi_fraction.proofs.Vocabulary.{◌≡◌, ap, rules, ◌∙◌, sym, FitsSigned, w128, to_z-of_z, number_of}
+use Rattle.wi_fraction.proofs.Vocabulary.{rules, ◌∙◌, FitsSigned, w128, to_z-of_z}
 use Rattle.wi_fraction.proofs.Steps.{whole_number_of}
 use Rattle.wi_fraction.proofs.Fraction.product_of_wholes.Goals as goal
 
