@@ -258,12 +258,13 @@ pub(crate) fn total(a: i128, b: i128) -> Option<i128>
     bounded(a.checked_add(b)?)
 }
 
-/// The sum of two numerators, where both are so small that it can't be too large: found with few tests.
+/// The sum of two numerators, where both are so small that it can't be too large: found with few tests, and those with
+/// one branch.
 #[inline(always)]
 pub(crate) fn small_total(a: i128, b: i128) -> Option<i128>
     ensures { IfSome result (λ c. Some c ≡ int_bounded (a +ℤ b)) }
 {
-    if is_small(a) && is_small(b) {
+    if is_small(a) & is_small(b) {
         Some(a + b)
     } else {
         None

@@ -47,7 +47,7 @@ pub(crate) fn small_quotient(a: u128, b: u128) -> Option<u64>
     ensures { IfSome result (λ q. (q ≡ a / b) × (a % b ≡ 0)) }
 {
     match (u64::try_from(a), u64::try_from(b)) {
-        (Ok(a), Ok(b)) => { if a % b == 0 { Some(a / b) } else { None } }
+        (Ok(a), Ok(b)) if a % b == 0 => Some(a / b),
         _ => None,
     }
 }

@@ -82,7 +82,7 @@ impl Total {
         }
     }
 
-    /// As `add_any`, of a large number or one over another denominator.
+    /// As `add`, of any number, without the quick ways of small ones.
     #[inline(never)]
     fn add_large(&mut self, other: &Fraction) -> Result<(), FractionError>
         ensures ok { OnOk result (sum_of self.old other.now ≡ Some self.new) }
