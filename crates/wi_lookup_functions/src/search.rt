@@ -43,10 +43,12 @@ impl<'a> TakesCells for Search<'a> {
 
     ghost after = { λ s c v. record s { found = found_after s.rule s.sought.now s.found c v } };
 
+    #[inline(always)]
     fn take(&mut self, at: Address, value: &Value) -> ControlFlow<()> {
-        if is_match(self.rule, value, self.sought) && !self.is_decided() {
-            self.found = Some(at);
+        if !is_match(self.rule, value, self.sought) || self.is_decided() {
+            return ControlFlow::Continue(());
         }
+        self.found = Some(at);
         if self.is_decided() {
             ControlFlow::Break(())
         } else {
@@ -58,7 +60,19 @@ impl<'a> TakesCells for Search<'a> {
 }
 
 /// Whether a value stands to the one sought in the order that is asked for.
+#[inline(always)]
 fn is_match(rule: Rule, value: &Value, sought: &Value) -> bool
+    ensures { result ≡ is_match (passes rule) sought.now value.now }
+{
+    match (value, sought) {
+        (Value::Number(x), Value::Number(y)) => rule.passes_number(x, y),
+        _ => is_match_any(rule, value, sought),
+    }
+}
+
+/// As `is_match`, of values of any kinds. It stands apart, so that numbers are compared at once.
+#[inline(never)]
+fn is_match_any(rule: Rule, value: &Value, sought: &Value) -> bool
     ensures { result ≡ is_match (passes rule) sought.now value.now }
 {
     match match_order(value, sought) {
