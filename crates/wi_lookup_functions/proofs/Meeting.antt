@@ -10,7 +10,7 @@ abbrev pub told : Relation → Value → Option Ordering → Bool
 told r v (Some o) = holds r o
 told r v None = holds_between_kinds r && can_be_found v
 
-pub ne_is : (o : Ordering) → not (is_eq o) ≡ is_ne o
+ne_is : (o : Ordering) → not (is_eq o) ≡ is_ne o
 ne_is less = refl
 ne_is equal = refl
 ne_is greater = refl

@@ -1,6 +1,7 @@
 //! Criteria (OpenFormula, "Criterion").
 
 ghost use Rattle.std.specs.Prelude.{◌≡◌, IfOk};
+ghost use Rattle.std.specs.Ordering.{int_cmp};
 ghost use Rattle.wi_fraction.specs.Order.{cross_cmp};
 ghost use Rattle.wi_standard_functions.specs.Criterion.{constant_of, operators};
 ghost use Rattle.wi_standard_functions.specs.Inner.Criteria.{criterion_by, criterion_of, equal_to};
@@ -88,13 +89,25 @@ impl Relation {
     fn holds_of(self, x: &Fraction, y: &Fraction) -> bool
         ensures { result ≡ holds self (cross_cmp x.now y.now) }
     {
+        if x.denominator() == y.denominator() {
+            self.holds_between(x.numerator(), y.numerator())
+        } else {
+            self.holds(x.cmp(y))
+        }
+    }
+
+    /// Whether it holds of two whole numbers.
+    #[inline(always)]
+    fn holds_between(self, m: i128, n: i128) -> bool
+        ensures { result ≡ holds self (int_cmp m n) }
+    {
         match self {
-            Relation::Equal => *x == *y,
-            Relation::Unequal => *x != *y,
-            Relation::Less => x.cmp(y).is_lt(),
-            Relation::AtMost => x.cmp(y).is_le(),
-            Relation::Greater => x.cmp(y).is_gt(),
-            Relation::AtLeast => x.cmp(y).is_ge(),
+            Relation::Equal => m == n,
+            Relation::Unequal => m != n,
+            Relation::Less => m < n,
+            Relation::AtMost => m <= n,
+            Relation::Greater => m > n,
+            Relation::AtLeast => m >= n,
         }
     }
 

@@ -1,7 +1,6 @@
 //! Which of several values is found.
 
 ghost use Rattle.std.specs.Prelude.{◌≡◌};
-ghost use Rattle.wi_fraction.specs.Order.{cross_cmp};
 ghost use Rattle.wi_lookup_functions.specs.Inner.Search.{passes, rule_in_order, rule_of_match_type};
 
 use std::cmp::Ordering;
@@ -48,18 +47,6 @@ impl Rule {
             Rule::FirstEqual => order.is_eq(),
             Rule::LastAtMost => order.is_le(),
             Rule::LastAtLeast => order.is_ge(),
-        }
-    }
-
-    /// Whether a number is asked for, beside the one sought.
-    #[inline(always)]
-    pub(crate) fn passes_number(self, x: &Fraction, sought: &Fraction) -> bool
-        ensures { result ≡ passes self (cross_cmp x.now sought.now) }
-    {
-        match self {
-            Rule::FirstEqual => *x == *sought,
-            Rule::LastAtMost => x.cmp(sought).is_le(),
-            Rule::LastAtLeast => x.cmp(sought).is_ge(),
         }
     }
 }

@@ -1,12 +1,12 @@
-use Rattle.wi_lookup_functions.proofs.Words.{ap, ◌∙◌, not}
-use Rattle.wi_fraction.specs.Order.{cross_cmp}
-use Rattle.wi_fraction.specs.Order.Laws.{cross_same_parts}
-use Rattle.wi_lookup_functions.proofs.Meeting.{ne_is}
+use Rattle.wi_lookup_functions.proofs.Words.{◌≡◌, ap, ◌∙◌, rules, holds}
+use Rattle.std.specs.Ordering.{int_cmp}
+use Rattle.wi_fraction.proofs.Sizes.{like_cmp}
 use Rattle.wi_lookup_functions.proofs.criterion.Relation.holds_of.Goals as goal
 
-pub returns-in-Equal : goal.returns-in-Equal
-returns-in-Equal c = rw c.in-Equal.is (c.eq.ensures ∙ cross_same_parts c.args.x.now c.args.y.now)
-
-pub returns-in-Unequal : goal.returns-in-Unequal
-returns-in-Unequal c =
-    rw c.in-Unequal.is (c.ne.ensures ∙ ap not (cross_same_parts c.args.x.now c.args.y.now) ∙ ne_is (cross_cmp c.args.x.now c.args.y.now))
+pub returns-then-denominator : goal.returns-then-denominator
+returns-then-denominator c =
+    let x = c.args.x.now in
+    let y = c.args.y.now in
+    let told : c.holds_between.result ≡ holds c.args.self (int_cmp x.num y.num) = search rules in
+    let same : x.den ≡ y.den = search rules in
+    told ∙ ap (holds c.args.self) (like_cmp x y same)
