@@ -42,6 +42,15 @@ same_place_inside r s c h k =
     let column_is : column_of (same_place r s c) ≡ column_of s.first + (column_of c - column_of r.first) = omega (arith, p.narrow, p.right) in
     rw (row_is, column_is) (and_from _ _ (and_from _ _ (le-leb _ _ (omega arith)) (le-leb _ _ p.bottom)) (and_from _ _ (le-leb _ _ (omega arith)) (le-leb _ _ p.right)))
 
+-- rectangles with one corner have each cell at its own place
+pub same_place_itself : (r s : Area) (c : ℕ) → is_within r c ≡ true → r.first ≡ s.first → same_place r s c ≡ c
+same_place_itself r s c h e =
+    let p = stands_in r c h in
+    let row_is : row_of r.first + (row_of c - row_of r.first) ≡ row_of c = omega (arith, p.top) in
+    let column_is : column_of r.first + (column_of c - column_of r.first) ≡ column_of c = omega (arith, p.left) in
+    ap (λ (d : ℕ). place (row_of d + (row_of c - row_of r.first)) (column_of d + (column_of c - column_of r.first))) (sym e)
+    ∙ rw (row_is, column_is) (omega arith)
+
 -- ---- one row, and rows
 
 -- the same rows and columns, counted from the corners of each

@@ -1,5 +1,8 @@
 -- Which values meet a criterion.
 use Rattle.wi_lookup_functions.proofs.Words.{◌≡◌, Bool, true, false, ◌&&◌, ◌==◌, Option, Some, None, refl, sym, ap, ◌∙◌, not, if◌then◌else◌, is_eq, is_ne, Ordering, Less as less, Equal as equal, Greater as greater, and-true, and_parts, Value, rank, value_order, can_be_found, same_kind, Relation, Unequal, AtMost, AtLeast, relation_of, holds, holds_between_kinds}
+use Rattle.wi_fraction.specs.Number as numbers
+use Rattle.wi_fraction.specs.Order.{cross_cmp}
+use Rattle.wi_values.specs.declared.value.Value.TheVariants.{Number}
 use Rattle.wi_lookup_functions.specs.declared.criterion.Relation.TheVariants.{Equal, Less, Greater}
 
 -- what is told by the order of a value to the operand, where they are of one kind
@@ -31,6 +34,18 @@ same Unequal w v true e =
 same Unequal w v false e =
     ap (λ (b : Bool). can_be_found v && not (b && is_eq (value_order v w))) e
     ∙ and-true (can_be_found v)
+
+-- numbers are of one kind
+pub met_by_number : (r : Relation) (w v : Value) (x y : numbers.Number) → v ≡ Number x → w ≡ Number y → relation_of r w v ≡ holds r (cross_cmp x y)
+met_by_number r w v x y h k = rw (h, k) (at r)
+  where
+    at : (q : Relation) → relation_of q (Number y) (Number x) ≡ holds q (cross_cmp x y)
+    at Equal = refl
+    at Unequal = ne_is (cross_cmp x y)
+    at Less = refl
+    at AtMost = refl
+    at Greater = refl
+    at AtLeast = refl
 
 pub met_by : (r : Relation) (w v : Value) (m : Option Ordering) → m ≡ (if same_kind v w then Some (value_order v w) else None) → relation_of r w v ≡ told r v m
 met_by r w v m e = same r w v (same_kind v w) refl ∙ ap (told r v) (sym e)

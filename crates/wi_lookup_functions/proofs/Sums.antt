@@ -9,7 +9,7 @@ use Rattle.wi_fraction.specs.Number as numbers
 use Rattle.wi_standard_functions.specs.Inner.Criteria as defined
 use Rattle.wi_arguments.specs.declared.argument.Argument as given
 use Rattle.wi_arguments.proofs.RowMajor.{cells_inside}
-use Rattle.wi_lookup_functions.proofs.Extents.{cells_moved, same_place_inside, within_other}
+use Rattle.wi_lookup_functions.proofs.Extents.{cells_moved, same_place_inside, same_place_itself, within_other}
 use Rattle.wi_lookup_functions.specs.Inner.Sums.{known_there, or_error, place_there, with_known, with_met_known, with_place}
 use Rattle.wi_value_functions.specs.NoValues.{IfMissing}
 use Rattle.wi_lookup_functions.proofs.Referring.{IsCriterionAt, by_criterion}
@@ -83,7 +83,12 @@ module _ (known : ℕ → Option Value) (criterion : Criterion) (r s : Area) whe
         let p = within_other r s c w size in
         let row : row_of s.first + (row_of c - row_of r.first) < rows = omega (arith, p.bottom, bottom) in
         let column : column_of s.first + (column_of c - column_of r.first) < columns = omega (arith, p.right, p.narrow) in
-        ap (λ (b : Bool). if b then Some (same_place r s c) else None) (and_from _ _ (lt-ltb _ _ row) (lt-ltb _ _ column))
+        let moved = ap (λ (b : Bool). if b then Some (same_place r s c) else None) (and_from _ _ (lt-ltb _ _ row) (lt-ltb _ _ column)) in
+        at (r.first == s.first) refl moved
+      where
+        at : (b : Bool) → (r.first == s.first) ≡ b → {o : Option ℕ} → o ≡ Some (same_place r s c) → (if b then Some c else o) ≡ Some (same_place r s c)
+        at true e m = ap (λ (d : ℕ). Some d) (sym (same_place_itself r s c w (eqb-true r.first s.first e)))
+        at false e m = m
 
     one : (cells : ℕ → Value) → KnownAgrees known cells → (t : Result numbers.Number (NoValue (Stop ℕ))) (u : Result numbers.Number ErrorKind) (c : ℕ) → is_within r c ≡ true → Follows t u → Follows (with_met_known known criterion r s t c (cells c)) (after cells u c (cells c))
     one cells a t u c w h = at (is_met criterion (cells c))

@@ -1,6 +1,8 @@
 //! Criteria (OpenFormula, "Criterion").
 
 ghost use Rattle.std.specs.Prelude.{◌≡◌, IfOk};
+ghost use Rattle.std.specs.Ordering.{int_cmp};
+ghost use Rattle.wi_fraction.specs.Order.{cross_cmp};
 ghost use Rattle.wi_standard_functions.specs.Criterion.{constant_of, operators};
 ghost use Rattle.wi_standard_functions.specs.Inner.Criteria.{criterion_by, criterion_of, equal_to};
 ghost use Rattle.wi_lookup_functions.specs.Inner.Meeting.{criterion_held, holds, holds_between_kinds, is_met, to_constant, IsRestAfter};
@@ -8,6 +10,7 @@ ghost use Rattle.wi_lookup_functions.specs.Inner.Meeting.{criterion_held, holds,
 use crate::matching::{can_be_found, match_order};
 use std::alloc::{AllocError, Global};
 use std::cmp::Ordering;
+use wi_fraction::Fraction;
 use wi_value_functions::zero;
 use wi_values::{FieldFault, Text, Value, imported_value};
 
@@ -42,9 +45,21 @@ impl Criterion {
     }
 
     /// Whether a value meets it. Linear in the shorter of two texts.
-    #[tactic(auto, using(crate::proofs::Meeting::met_by))]
+    #[tactic(auto, using(crate::proofs::Meeting::met_by_number))]
     #[inline(always)]
     pub(crate) fn meets(&self, value: &Value) -> bool
+        ensures { result ≡ is_met self.now value.now }
+    {
+        match (value, &self.operand) {
+            (Value::Number(x), Value::Number(y)) => self.relation.holds_of(x, y),
+            _ => self.meets_any(value),
+        }
+    }
+
+    /// As `meets`, of any value. It stands apart, so that numbers are compared at once.
+    #[tactic(auto, using(crate::proofs::Meeting::met_by))]
+    #[inline(never)]
+    fn meets_any(&self, value: &Value) -> bool
         ensures { result ≡ is_met self.now value.now }
     {
         match match_order(value, &self.operand) {
@@ -66,6 +81,33 @@ impl Relation {
             Relation::AtMost => order.is_le(),
             Relation::Greater => order.is_gt(),
             Relation::AtLeast => order.is_ge(),
+        }
+    }
+
+    /// Whether it holds of two numbers.
+    #[inline(always)]
+    fn holds_of(self, x: &Fraction, y: &Fraction) -> bool
+        ensures { result ≡ holds self (cross_cmp x.now y.now) }
+    {
+        if x.denominator() == y.denominator() {
+            self.holds_between(x.numerator(), y.numerator())
+        } else {
+            self.holds(x.cmp(y))
+        }
+    }
+
+    /// Whether it holds of two whole numbers.
+    #[inline(always)]
+    fn holds_between(self, m: i128, n: i128) -> bool
+        ensures { result ≡ holds self (int_cmp m n) }
+    {
+        match self {
+            Relation::Equal => m == n,
+            Relation::Unequal => m != n,
+            Relation::Less => m < n,
+            Relation::AtMost => m <= n,
+            Relation::Greater => m > n,
+            Relation::AtLeast => m >= n,
         }
     }
 

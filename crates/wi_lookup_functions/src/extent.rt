@@ -31,6 +31,9 @@ pub(crate) fn same_place(at: Address, one: Rect, other: Rect) -> Address
 pub(crate) fn place_there(at: Address, one: Rect, other: Rect) -> Option<Address>
     ensures { result ≡ place_there one other at }
 {
+    if one.first() == other.first() {
+        return Some(at);
+    }
     Address::new(
         other.first().row() + at.row().saturating_sub(one.first().row()),
         other.first().column() + at.column().saturating_sub(one.first().column()),

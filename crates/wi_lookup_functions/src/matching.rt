@@ -10,20 +10,7 @@ use wi_values::Value;
 
 /// The order of a value to the one sought, or `None` where they aren't of one kind: Empty and errors are of none.
 /// Linear in the shorter of two texts.
-#[inline(always)]
 pub(crate) fn match_order(value: &Value, sought: &Value) -> Option<Ordering>
-    ensures { result ≡ if same_kind value.now sought.now
-        then Some (value_order value.now sought.now) else None }
-{
-    match (value, sought) {
-        (Value::Number(x), Value::Number(y)) => Some(x.cmp(y)),
-        _ => order_apart(value, sought),
-    }
-}
-
-/// As `match_order`, of values of any kinds. It stands apart, so that numbers are compared at once.
-#[inline(never)]
-fn order_apart(value: &Value, sought: &Value) -> Option<Ordering>
     ensures { result ≡ if same_kind value.now sought.now
         then Some (value_order value.now sought.now) else None }
 {

@@ -1,6 +1,7 @@
 //! A search along one row or one column.
 
 ghost use Rattle.std.specs.Prelude.{◌≡◌, ◌<◌, length, map, ok_or, true, IfOk};
+ghost use Rattle.std.specs.Ordering.{is_eq};
 ghost use Rattle.wi_values.specs.Address.{cells_of};
 ghost use Rattle.wi_values.specs.declared.value.ErrorKind.TheVariants.{NotAvailable};
 ghost use Rattle.wi_standard_functions.specs.Matching.{is_match};
@@ -43,10 +44,12 @@ impl<'a> TakesCells for Search<'a> {
 
     ghost after = { λ s c v. record s { found = found_after s.rule s.sought.now s.found c v } };
 
+    #[inline(always)]
     fn take(&mut self, at: Address, value: &Value) -> ControlFlow<()> {
-        if is_match(self.rule, value, self.sought) && !self.is_decided() {
-            self.found = Some(at);
+        if !is_match(self.rule, value, self.sought) || self.is_decided() {
+            return ControlFlow::Continue(());
         }
+        self.found = Some(at);
         if self.is_decided() {
             ControlFlow::Break(())
         } else {
@@ -58,7 +61,41 @@ impl<'a> TakesCells for Search<'a> {
 }
 
 /// Whether a value stands to the one sought in the order that is asked for.
+#[inline(always)]
 fn is_match(rule: Rule, value: &Value, sought: &Value) -> bool
+    ensures { result ≡ is_match (passes rule) sought.now value.now }
+{
+    match rule {
+        Rule::FirstEqual => is_equal(value, sought),
+        _ => is_match_in_order(rule, value, sought),
+    }
+}
+
+/// Whether a value is equal to the one sought. Numbers are compared part by part.
+#[inline(always)]
+fn is_equal(value: &Value, sought: &Value) -> bool
+    ensures { result ≡ is_match is_eq sought.now value.now }
+{
+    match (value, sought) {
+        (Value::Number(x), Value::Number(y)) => *x == *y,
+        _ => is_match_any(Rule::FirstEqual, value, sought),
+    }
+}
+
+/// As `is_match`, by the order of numbers.
+#[inline(always)]
+fn is_match_in_order(rule: Rule, value: &Value, sought: &Value) -> bool
+    ensures { result ≡ is_match (passes rule) sought.now value.now }
+{
+    match (value, sought) {
+        (Value::Number(x), Value::Number(y)) => rule.passes(x.cmp(y)),
+        _ => is_match_any(rule, value, sought),
+    }
+}
+
+/// As `is_match`, of values of any kinds. It stands apart, so that numbers are compared at once.
+#[inline(never)]
+fn is_match_any(rule: Rule, value: &Value, sought: &Value) -> bool
     ensures { result ≡ is_match (passes rule) sought.now value.now }
 {
     match match_order(value, sought) {

@@ -199,10 +199,8 @@ fn add_cell(total: &mut Total, value: &Value) -> Result<(), ErrorKind>
     ensures err { IfErr result (λ e. with_cell (Ok total.old) value.now ≡ Err e) }
 {
     match value {
-        Value::Empty => Ok(()),
         Value::Number(x) => add_to(total, x),
-        Value::Text(_) => Ok(()),
-        Value::Logical(_) => Ok(()),
         Value::Fault(e) => Err(*e),
+        _ => Ok(()),
     }
 }

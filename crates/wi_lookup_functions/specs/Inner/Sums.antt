@@ -26,6 +26,7 @@ same_place r s c = place (row_of s.first + (row_of c - row_of r.first)) (column_
 -- that place, where it lies in the sheet
 abbrev pub place_there : Area → Area → ℕ → Option ℕ
 place_there r s c =
+    if r.first == s.first then Some c else
     if nat_lt (row_of s.first + (row_of c - row_of r.first)) rows && nat_lt (column_of s.first + (column_of c - column_of r.first)) columns
     then Some (same_place r s c) else None
 
