@@ -60,12 +60,6 @@ module _ {L R W : Type 0} (remaining₁ : L → Option (List ℕ)) (failed₁ : 
       → RunInTurn remaining₁ failed₁ remaining₂ failed₂ contents write_failed flushed (faulted e) one one' two two' sink sink' s t
   in_turn_stopped e one one' two two' sink sink' s t same h = record { first = Err e; between = sink'; mid = t; is_run = h; goes_on = (refl, same, refl, refl) }
 
-  -- the second run after the first
-  pub in_turn_both : (x : Unit {0}) (r : Result (Unit {0}) RunFault) (one one' : L) (two two' : R) (sink between sink' : W) (s m t : State)
-      → IsRun remaining₁ failed₁ contents write_failed flushed (Ok x) one one' sink between s m → IsRun remaining₂ failed₂ contents write_failed flushed r two two' between sink' m t
-      → RunInTurn remaining₁ failed₁ remaining₂ failed₂ contents write_failed flushed r one one' two two' sink sink' s t
-  in_turn_both x r one one' two two' sink between sink' s m t h k = record { first = Ok x; between = between; mid = m; is_run = h; goes_on = k }
-
   -- no memory for the workbook
   pub in_turn_not_begun : (r : Result (Unit {0}) RunFault) (one : L) (two : R) (sink : W) → r ≡ Err Memory
       → (last : State) × RunInTurn remaining₁ failed₁ remaining₂ failed₂ contents write_failed flushed r one one two two sink sink new_state last
