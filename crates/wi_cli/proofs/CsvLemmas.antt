@@ -1,10 +1,9 @@
 -- What is told of data lines.
-use Rattle.wi_cli.proofs.Vocabulary.{◌≡◌, Bool, Err, List, None, Ok, Option, Result, Some, [], ap, arith, false, if◌then◌else◌, inl, inr, length, nat_lt, refl, subst, sym, true, ℕ, ◌&&◌, ◌+◌, ◌<◌, ◌==◌, ◌∙◌, ◌≤◌, nat_tests, concat, list_any, is_long, HoldsLines, IsTarget, command_of_csv, target_of, wants, read_any, read_by, RefusedAs, Told, max_line, without_lf, DataLines, Held, BadCommand, BadLine, CutShort, Holds, lies_outside, Command, Csv, Unreadable, Cell, is_outside, IsImportStep, IsStep, State, Refusal, AddressFault, form, address, is_ok, All, All-weaker, each_fails, outside_first, long_lines, no_long_line}
+use Rattle.wi_cli.proofs.Vocabulary.{◌≡◌, Bool, Err, List, None, Ok, Option, Result, Some, [], ap, arith, false, if◌then◌else◌, inl, inr, length, nat_lt, refl, subst, sym, true, ℕ, ◌&&◌, ◌+◌, ◌<◌, ◌==◌, ◌∙◌, ◌≤◌, nat_tests, concat, list_any, is_long, HoldsLines, IsTarget, command_of_csv, target_of, wants, read_any, read_by, RefusedAs, Told, max_line, without_lf, DataLines, Held, BadCommand, BadLine, CutShort, Holds, lies_outside, Command, Csv, Unreadable, Cell, is_outside, IsImportStep, IsStep, State, Refusal, AddressFault, form, address, is_ok, All, All-weaker, each_fails, outside_first, long_lines, no_long_line, ReadCsv}
 use Rattle.std.specs.List.{All as Each}
 use Rattle.wi_scenarios.specs.declared.refusal.Refusal.TheVariants as refusal
 use Rattle.wi_scenarios.specs.Answer as answer
 use Rattle.wi_cli.specs.Inner.Data.{Holds as HoldsData}
-use Rattle.wi_cli.specs.declared.csv_line.CsvLine.{CsvLine as ReadCsv}
 use Rattle.wi_cli.specs.declared.data_lines.Held.TheVariants.{TooLong}
 use Rattle.wi_cli.specs.declared.reply.Reply.TheVariants as told
 use Rattle.wi_cli.proofs.Ties.Operands.{cell_again}

@@ -1,10 +1,10 @@
 -- Data lines, as they are taken and held.
-use Rattle.wi_cli.proofs.Vocabulary.{◌≡◌, ℕ, ◌+◌, ◌-◌, ◌<◌, ◌≤◌, Bool, true, false, ◌||◌, ◌&&◌, cond, ltb, List, [], ◌∷◌, ◌++◌, length, take, refl, sym, ap, ◌∙◌, subst, ⊎_elim, None, Some, append_assoc, append-nil, length-append, arith, concat, list_any, is_utf8, or-true, take_all, length-take, list_any-append, false≢true, lt-ltb, le-ltb, ltb-true, cases_lt, RunFault, Held, Lacking, DataLines, raw_lines, without_cr, is_whole, CsvLine, csv_text, csv_line, is_long, raw, line_front, Place, IsOver, TookNext, BrokeNext, TookLines, IsCsv, HoldsLines, AddedTo, TookData, BrokeData, All}
-use Rattle.wi_cli.specs.declared.csv_line.CsvLine.{CsvLine as ReadCsv}
+use Rattle.wi_cli.proofs.Vocabulary.{◌≡◌, ℕ, ◌+◌, ◌-◌, ◌<◌, ◌≤◌, Bool, true, false, ◌||◌, ◌&&◌, cond, ltb, List, [], ◌∷◌, ◌++◌, length, take, refl, sym, ap, ◌∙◌, subst, ⊎_elim, None, Some, append_assoc, append-nil, length-append, arith, concat, list_any, is_utf8, or-true, take_all, length-take, list_any-append, false≢true, lt-ltb, le-ltb, ltb-true, cases_lt, RunFault, Held, Lacking, DataLines, raw_lines, without_cr, is_whole, CsvLine, csv_line, is_long, raw, line_front, Place, IsOver, TookNext, BrokeNext, IsCsv, HoldsLines, AddedTo, TookData, BrokeData, All, ReadCsv}
 use Rattle.wi_cli.specs.declared.data_lines.Held.TheVariants.{TooLong}
 use Rattle.wi_cli.specs.Inner.Data.{Holds}
 use Rattle.wi_cli.proofs.LineLemmas.{raw_lines-last, raw_lines-raw, without_lf-raw, concat_push}
-use Rattle.wi_cli.proofs.TakenLemmas.{IsCsvOf, none_taken, one_taken, taken_lines, TookLines-trans, one_broke}
+use Rattle.wi_cli.proofs.Ties.Texts.{csv_line_by}
+use Rattle.wi_cli.proofs.TakenLemmas.{IsCsvOf, no_last, none_taken, one_taken, taken_lines, TookLines-trans, one_broke}
 
 -- ---- a line by its front
 
@@ -30,15 +30,10 @@ front_none content e = none_of_front 65537 content (omega arith) e
 -- ---- a line that asks for data lines, by its front
 
 csv_short : (line : List ℕ) (x : CsvLine) → csv_line line ≡ Some x → length line ≤ 65536
-unfolding csv_line
 csv_short line x e = ⊎_elim
-    (λ (l : 65536 < length line). let none = sym (ap (λ b. cond b None (csv_text (without_cr line))) (lt-ltb 65536 (length line) l)) ∙ e in absurd cc)
+    (λ (l : 65536 < length line). let none = sym (csv_line_by line true (lt-ltb 65536 (length line) l)) ∙ e in absurd cc)
     (λ (l : length line ≤ 65536). l)
     (cases_lt 65536 (length line))
-
-csv_none : (content : List ℕ) → 65536 < length content → csv_line content ≡ None
-unfolding csv_line
-csv_none content l = ap (λ b. cond b None (csv_text (without_cr content))) (lt-ltb 65536 (length content) l)
 
 front_all : (line content : List ℕ) → line ≡ line_front content → length content ≤ 65536 → line ≡ content
 unfolding line_front
@@ -51,7 +46,7 @@ csv_read line content e csv h t =
 
 pub no_csv : (line content : List ℕ) → line ≡ line_front content → csv_line line ≡ None → csv_line content ≡ None
 no_csv line content e h = ⊎_elim
-    (λ (l : 65536 < length content). csv_none content l)
+    (λ (l : 65536 < length content). csv_line_by content true (lt-ltb 65536 (length content) l))
     (λ (l : length content ≤ 65536). ap csv_line (sym (front_all line content e l)) ∙ h)
     (cases_lt 65536 (length content))
 
@@ -121,9 +116,6 @@ added_one d d' whole line content no_lf e h some wanted missing held =
 
 -- ---- all that are taken
 
-no_last : {whole : Bool} {p q : Place} → (h : TookLines whole p q) → whole ≡ true → h.lines ++ raw_lines h.last ≡ h.lines
-no_last h e = ap (λ x. h.lines ++ raw_lines x) (h.none_last e) ∙ append-nil h.lines
-
 pub data_begun : (asked : ℕ) (d : DataLines) (whole : Bool) (p : Place) → p.lines ≤ 1000000 → (whole ≡ false → IsOver p) → d.missing ≡ asked → HoldsLines d [] → TookData asked d whole whole p p
 data_begun asked d whole p most e missing held = record {
   took = none_taken whole p most e;
@@ -138,7 +130,7 @@ data_more asked d d' before whole p q r line most h k more =
     let one = one_taken whole q r line most k in
     let same : (h.took.lines ++ one.lines) ++ raw_lines one.last ≡ (h.took.lines ++ raw_lines h.took.last) ++ raw_lines (raw whole k.took.content) =
     append_assoc h.took.lines one.lines (raw_lines one.last) ∙ ap (λ x. h.took.lines ++ x) (taken_lines whole q r line most k)
-    ∙ ap (λ x. x ++ raw_lines (raw whole k.took.content)) (sym (no_last h.took refl)) in record {
+    ∙ ap (λ x. x ++ raw_lines (raw whole k.took.content)) (sym (no_last h.took.lines (raw_lines h.took.last) (ap raw_lines (h.took.none_last refl)))) in record {
       took = TookLines-trans whole p q r h.took one;
       none_taken = λ f. absurd (false≢true (sym (h.none_taken f).0));
       missing = omega (arith, ap length same, length-append (h.took.lines ++ raw_lines h.took.last) (raw_lines (raw whole k.took.content)), more.missing, h.missing);
@@ -151,7 +143,7 @@ data_stopped asked d before fault p q r most h some k =
     let broke = one_broke fault p q r h.took k most in record {
       came = go before (λ f. (h.none_taken f).0);
       broke = broke.0;
-      some_missing = omega (arith, h.missing, ap length (no_last h.took refl), ap length broke.1);
+      some_missing = omega (arith, h.missing, ap length (no_last h.took.lines (raw_lines h.took.last) (ap raw_lines (h.took.none_last refl))), ap length broke.1);
     } where
       go : (v : Bool) → (v ≡ false → true ≡ false) → v ≡ true
       go true f = refl

@@ -1,5 +1,5 @@
 -- A run on a new workbook, and two runs in turn.
-use Rattle.wi_cli.proofs.Vocabulary.{◌≡◌, ℕ, Bool, true, false, List, [], ap, ◌∙◌, refl, subst, Option, Result, Ok, Err, IfOk, false≢true, Consumes-nil, Appends-nil, Limits, Stored, KeptSheet, State, state_over, new_state, Book, RunFault, Memory, Read, Write, IsRun, RunInTurn}
+use Rattle.wi_cli.proofs.Vocabulary.{◌≡◌, ℕ, Bool, List, [], ap, ◌∙◌, refl, subst, Option, Result, Ok, Err, IfOk, Consumes-nil, Appends-nil, Limits, Stored, KeptSheet, State, state_over, new_state, Book, RunFault, Memory, IsRun, RunInTurn}
 
 -- a new workbook with these limits
 empty_within : ℕ → ℕ → State
@@ -17,18 +17,9 @@ pub is_new : {E : Type 0} (r : Result Book E) (stored : Stored) → IfOk r (λ (
 is_new (Ok book) stored b s = b ∙ s
 is_new (Err e) stored b s = tt
 
-is_read : Result (Unit {0}) RunFault → Bool
-is_read (Err Read) = true
-is_read r = false
-
-is_write : Result (Unit {0}) RunFault → Bool
-is_write (Err Write) = true
-is_write r = false
-
 module _ {R W : Type 0} (remaining : R → Option (List ℕ)) (read_failed : R → Bool) (contents : W → Option (List ℕ)) (write_failed flushed : W → Bool) where
   -- where there is no memory to begin with, nothing is done
   pub not_run : (source : R) (sink : W) (s : State) → IsRun remaining read_failed contents write_failed flushed (Err Memory) source source sink sink s s
-  unfolding is_read is_write
   not_run source sink s = record {
     input = [];
     out = [];
@@ -39,8 +30,8 @@ module _ {R W : Type 0} (remaining : R → Option (List ℕ)) (read_failed : R �
     reads = tt;
     writes = tt;
     all_sent = tt;
-    read_fault = λ i. absurd (false≢true (ap is_read i));
-    write_fault = λ i. absurd (false≢true (ap is_write i));
+    read_fault = λ i. cc;
+    write_fault = λ i. cc;
     unread = λ i. refl;
     unwritten = λ i. refl;
   }
@@ -68,12 +59,6 @@ module _ {L R W : Type 0} (remaining₁ : L → Option (List ℕ)) (failed₁ : 
       → IsRun remaining₁ failed₁ contents write_failed flushed (faulted e) one one' sink sink' s t
       → RunInTurn remaining₁ failed₁ remaining₂ failed₂ contents write_failed flushed (faulted e) one one' two two' sink sink' s t
   in_turn_stopped e one one' two two' sink sink' s t same h = record { first = Err e; between = sink'; mid = t; is_run = h; goes_on = (refl, same, refl, refl) }
-
-  -- the second run after the first
-  pub in_turn_both : (x : Unit {0}) (r : Result (Unit {0}) RunFault) (one one' : L) (two two' : R) (sink between sink' : W) (s m t : State)
-      → IsRun remaining₁ failed₁ contents write_failed flushed (Ok x) one one' sink between s m → IsRun remaining₂ failed₂ contents write_failed flushed r two two' between sink' m t
-      → RunInTurn remaining₁ failed₁ remaining₂ failed₂ contents write_failed flushed r one one' two two' sink sink' s t
-  in_turn_both x r one one' two two' sink between sink' s m t h k = record { first = Ok x; between = between; mid = m; is_run = h; goes_on = k }
 
   -- no memory for the workbook
   pub in_turn_not_begun : (r : Result (Unit {0}) RunFault) (one : L) (two : R) (sink : W) → r ≡ Err Memory

@@ -1,5 +1,5 @@
 -- The lines of bytes that are taken a line at a time, and the blocks of lines.
-use Rattle.wi_cli.proofs.Vocabulary.{◌≡◌, ℕ, ◌+◌, ◌<◌, ◌≤◌, Bool, true, false, ◌||◌, cond, eqb, List, [], ◌∷◌, ◌++◌, length, refl, sym, ap, ◌∙◌, append_assoc, append-nil, arith, concat, false≢true, concat-append, raw_lines, onto_first, without_lf, is_whole, whole_lines, raw, AreWhole, ◌-◌, nat_eq, subst, ne_eqb, filter-append, csv_line, Block, lines_of, begun, with_data, is_complete, blocks_from, blocks, AreBlocks, AreBlocksOf, filter}
+use Rattle.wi_cli.proofs.Vocabulary.{◌≡◌, ℕ, ◌+◌, ◌<◌, ◌≤◌, Bool, true, false, ◌||◌, cond, eqb, List, [], ◌∷◌, ◌++◌, length, refl, sym, ap, ◌∙◌, append_assoc, append-nil, arith, concat, false≢true, concat-append, raw_lines, onto_first, without_lf, is_whole, raw, AreWhole, ◌-◌, nat_eq, subst, ne_eqb, filter-append, Block, begun, with_data, is_complete, blocks_from, blocks, AreBlocks, AreBlocksOf, filter, ap₂, asked}
 
 -- a byte that is no LF, by the test of a line that begins with it
 not_lf : (b : ℕ) (bs : List ℕ) → is_whole (b ∷ bs) ≡ false → (eqb b 10 ≡ false) × (is_whole bs ≡ false)
@@ -42,14 +42,14 @@ whole_raw content = is_whole-append content (10 ∷ []) ∙ go (is_whole content
 -- ---- lines that end with their LF
 
 pub AreWhole-none : AreWhole []
-AreWhole-none = record { first = λ rest. refl; whole = λ more. refl }
+AreWhole-none = record { first = λ rest. refl; whole = refl }
 
 pub AreWhole-one : (content : List ℕ) → is_whole content ≡ false → AreWhole (raw true content ∷ [])
 AreWhole-one content h = record {
   first = λ rest.
       ap (λ x. raw_lines (x ++ rest)) (append-nil (raw true content)) ∙ ap raw_lines (append_assoc content (10 ∷ []) rest)
       ∙ raw_lines-whole content rest h;
-  whole = λ more. ap (λ b. cond b (raw true content ∷ whole_lines more) []) (whole_raw content);
+  whole = ap (λ b. cond b (raw true content ∷ []) []) (whole_raw content);
 }
 
 pub AreWhole-append : (ls ms : List (List ℕ)) → AreWhole ls → AreWhole ms → AreWhole (ls ++ ms)
@@ -57,9 +57,7 @@ AreWhole-append ls ms h k = record {
   first = λ rest.
       ap (λ x. raw_lines (x ++ rest)) (concat-append ls ms) ∙ ap raw_lines (append_assoc (concat ls) (concat ms) rest)
       ∙ h.first (concat ms ++ rest) ∙ ap (λ x. ls ++ x) (k.first rest) ∙ sym (append_assoc ls ms (raw_lines rest));
-  whole = λ more.
-      ap whole_lines (append_assoc ls ms more) ∙ h.whole (ms ++ more) ∙ ap (λ x. ls ++ x) (k.whole more)
-      ∙ sym (append_assoc ls ms (whole_lines more));
+  whole = filter-append is_whole ls ms ∙ ap₂ ◌++◌ h.whole k.whole;
 }
 
 pub concat_push : (ls : List (List ℕ)) (l : List ℕ) → concat (ls ++ l ∷ []) ≡ concat ls ++ l
@@ -69,9 +67,9 @@ concat_push ls l = concat-append ls (l ∷ []) ∙ ap (λ x. concat ls ++ x) (ap
 pub raw_lines-raw : (content : List ℕ) → is_whole content ≡ false → raw_lines (raw true content) ≡ raw true content ∷ []
 raw_lines-raw content h = raw_lines-whole content [] h
 
-pub last_whole : (content : List ℕ) → is_whole content ≡ false → whole_lines (raw_lines content) ≡ []
+pub last_whole : (content : List ℕ) → is_whole content ≡ false → filter is_whole (raw_lines content) ≡ []
 last_whole [] h = refl
-last_whole (b ∷ bs) h = ap whole_lines (raw_lines-last b bs h) ∙ ap (λ z. cond z ((b ∷ bs) ∷ []) []) h
+last_whole (b ∷ bs) h = ap (filter is_whole) (raw_lines-last b bs h) ∙ ap (λ z. cond z ((b ∷ bs) ∷ []) []) h
 
 pub few_last : (content : List ℕ) (n : ℕ) → is_whole content ≡ false → (0 < length content → n < 1000000) → n ≤ 1000000 → n + length (raw_lines content) ≤ 1000000
 few_last [] n h k l = let e : length (raw_lines []) ≡ 0 = refl in omega arith
@@ -106,26 +104,26 @@ ended b [] e = refl
 ended b (l ∷ ls) e = ap (λ n. cond (nat_eq n 0) (b ∷ blocks_from (begun l) ls) (blocks_from (with_data b l) ls)) e
 
 -- a line with its data lines
-pub one_block : (line : List ℕ) (ds : List (List ℕ)) (m : ℕ) → lines_of (csv_line (without_lf line)) ≡ length ds + m → blocks (line ∷ ds) ≡ block_of line ds m ∷ []
+pub one_block : (line : List ℕ) (ds : List (List ℕ)) (m : ℕ) → asked line ≡ length ds + m → blocks (line ∷ ds) ≡ block_of line ds m ∷ []
 one_block line ds m e = ap (blocks_from (begun line)) (sym (append-nil ds)) ∙ filled line [] ds [] m _ e
 
-whole_block : (line : List ℕ) (ds : List (List ℕ)) → lines_of (csv_line (without_lf line)) ≡ length ds + 0 → AreBlocks (line ∷ ds) (block_of line ds 0 ∷ [])
+pub whole_block : (line : List ℕ) (ds : List (List ℕ)) → asked line ≡ length ds + 0 → AreBlocks (line ∷ ds) (block_of line ds 0 ∷ [])
 whole_block line ds e = record {
   first = λ more. filled line [] ds more 0 _ e ∙ ended (block_of line ds 0) more refl;
   complete = refl;
 }
 
-pub block_at : (whole : Bool) (line : List ℕ) (ds : List (List ℕ)) (m : ℕ) → lines_of (csv_line (without_lf line)) ≡ length ds + m → (whole ≡ true → m ≡ 0)
+pub block_at : (whole : Bool) (line : List ℕ) (ds : List (List ℕ)) (m : ℕ) → asked line ≡ length ds + m → (whole ≡ true → m ≡ 0)
     → AreBlocksOf whole (line ∷ ds) (block_of line ds m ∷ [])
 block_at true line ds m e h =
     let none : m ≡ 0 = h refl in
     subst (λ n. AreBlocks (line ∷ ds) (block_of line ds n ∷ [])) (sym none) (whole_block line ds (omega arith))
 block_at false line ds m e h = one_block line ds m e
 
-pub block_lacks : (line : List ℕ) (ds : List (List ℕ)) (asked : ℕ) → lines_of (csv_line (without_lf line)) ≡ asked → length ds < asked → filter is_complete (blocks (line ∷ ds)) ≡ []
-block_lacks line ds asked e l =
-    let m : ℕ = asked - length ds in
-    let some : nat_eq (asked - length ds) 0 ≡ false = ne_eqb (asked - length ds) 0 (λ z. absurd (omega arith)) in
+pub block_lacks : (line : List ℕ) (ds : List (List ℕ)) (n : ℕ) → asked line ≡ n → length ds < n → filter is_complete (blocks (line ∷ ds)) ≡ []
+block_lacks line ds n e l =
+    let m : ℕ = n - length ds in
+    let some : nat_eq (n - length ds) 0 ≡ false = ne_eqb (n - length ds) 0 (λ z. absurd (omega arith)) in
     ap (filter is_complete) (one_block line ds m (e ∙ omega arith)) ∙ ap (λ b. cond b (block_of line ds m ∷ []) []) some
 
 -- ---- one after another

@@ -1,9 +1,9 @@
 -- A run of a script so far, and how it may end.
-use Rattle.wi_cli.proofs.Vocabulary.{◌≡◌, ℕ, ◌+◌, ◌-◌, ◌<◌, ◌≤◌, Bool, true, false, List, [], ◌∷◌, ◌++◌, length, take, drop, refl, sym, ap, ◌∙◌, subst, Option, None, Some, Result, Ok, Err, IfErr, OnOk, append_assoc, append-nil, length-append, inl, inr, arith, concat, option_to_list, Appends, Keeps, Consumes, IsAtEnd, prepend_known, Appends-trans, Appends-nil, Appends-kept, take_at, take-append-drop, filter_map-append, filter-append, concat-append, take-append-add, RunFault, Memory, Read, Write, ScriptLimit, State, Place, Stage, Takes, Advances, AppendsFront, raw_lines, Block, blocks, is_complete, block_command, commands, whole_lines, all_commands, complete_commands, AreWhole, AreBlocks, TookBlock, BrokeBlock, Served, Stopped, IsTurn, limited, IsRun, Command, Writes, is_whole, Outcome, filter, filter_map}
-use Rattle.wi_cli.proofs.Ties.LinesRead.{all_is, read_is, many_is, cut_is, answered}
-use Rattle.wi_cli.proofs.TakenLemmas.{Advances-trans}
+use Rattle.wi_cli.proofs.Vocabulary.{◌≡◌, ℕ, ◌+◌, ◌-◌, ◌<◌, ◌≤◌, Bool, true, false, List, [], ◌∷◌, ◌++◌, length, take, drop, refl, sym, ap, ◌∙◌, subst, Option, None, Some, Result, Ok, Err, IfErr, OnOk, append_assoc, append-nil, length-append, inl, inr, arith, concat, option_to_list, Appends, Keeps, Consumes, IsAtEnd, prepend_known, Appends-trans, Appends-nil, Appends-kept, take_at, take-append-drop, filter_map-append, filter-append, take-append-add, RunFault, Memory, Read, Write, ScriptLimit, State, Place, Stage, Takes, Advances, AppendsFront, raw_lines, Block, blocks, is_complete, block_command, AreWhole, AreBlocks, TookBlock, BrokeBlock, Served, Stopped, IsTurn, IsRun, Command, Writes, is_whole, Outcome, filter, filter_map, false≢true, TookLines, commands_of, AreCommands}
+use Rattle.wi_cli.proofs.Ties.LinesRead.{are_commands}
+use Rattle.wi_cli.proofs.TakenLemmas.{BrokeLines-behind, TookLines-trans, no_last, none_taken}
 use Rattle.wi_cli.proofs.TurnLemmas.{Writes-append, may_fail, last_written}
-use Rattle.wi_cli.proofs.LineLemmas.{AreWhole-none, AreWhole-append, last_whole, some_line, AreBlocks-none, AreBlocks-append}
+use Rattle.wi_cli.proofs.LineLemmas.{last_whole, some_line, AreBlocks-none, AreBlocks-append}
 
 -- where a run begins
 abbrev pub start : Option (List ℕ) → Place
@@ -11,29 +11,19 @@ start left = record { chunk = []; left = left; lines = 0 }
 
 -- the complete blocks so far, and the replies to them
 pub record IsGoing (left : Option (List ℕ)) (s : State) (given : Option (List ℕ)) (now : Stage) : Type 0 where
-  pub lines : List (List ℕ)
+  pub took : TookLines true (start left) now.read
   pub done : List Block
   pub out : List ℕ
-  pub are_whole : AreWhole lines
-  pub are_blocks : AreBlocks lines done
-  pub counted : length lines ≡ now.read.lines
-  pub taken : Advances (start left) now.read (concat lines)
+  pub are_blocks : AreBlocks took.lines done
   pub written : Appends given now.written out
   pub writes : Writes false s (filter_map block_command done) out now.state
 
-Takes-none : (left : Option (List ℕ)) → Takes [] left [] left []
-Takes-none None = tt
-Takes-none (Some xs) = refl
-
 pub going_none : (left : Option (List ℕ)) (s : State) (given : Option (List ℕ)) → IsGoing left s given (record { read = start left; state = s; written = given })
 going_none left s given = record {
-  lines = [];
+  took = none_taken true (start left) (omega arith) (λ e. absurd (false≢true (sym e)));
   done = [];
   out = [];
-  are_whole = AreWhole-none;
   are_blocks = AreBlocks-none;
-  counted = refl;
-  taken = Takes-none left;
   written = Appends-nil given;
   writes = (refl, refl);
 }
@@ -42,30 +32,6 @@ going_none left s given = record {
 with_command : (done taken : List Block) (command : Option Command) → filter_map block_command taken ≡ option_to_list command
     → filter_map block_command (done ++ taken) ≡ filter_map block_command done ++ option_to_list command
 with_command done taken command e = filter_map-append block_command done taken ∙ ap (λ x. filter_map block_command done ++ x) e
-
--- a whole block's lines are all that was taken
-no_last : (ls : List (List ℕ)) (last : List ℕ) → last ≡ [] → ls ++ raw_lines last ≡ ls
-no_last ls last e = ap (λ x. ls ++ raw_lines x) e ∙ append-nil ls
-
-all_bytes : (ls ms : List (List ℕ)) (last : List ℕ) → last ≡ [] → concat ls ++ (concat ms ++ last) ≡ concat (ls ++ ms)
-all_bytes ls ms last e = ap (λ x. concat ls ++ (concat ms ++ x)) e ∙ ap (λ x. concat ls ++ x) (append-nil (concat ms)) ∙ sym (concat-append ls ms)
-
-pub going_on : (left : Option (List ℕ)) (s : State) (given : Option (List ℕ)) (now next : Stage) → IsGoing left s given now → IsTurn (Ok true) now next → IsGoing left s given next
-going_on left s given now next h k =
-    let served = k.0 in
-    let took = served.block.took in
-    let none = took.none_last refl in record {
-      lines = h.lines ++ took.lines;
-      done = h.done ++ served.block.taken;
-      out = h.out ++ served.reply;
-      are_whole = AreWhole-append h.lines took.lines h.are_whole took.are_whole;
-      are_blocks = AreBlocks-append h.lines took.lines h.done served.block.taken h.are_blocks (subst (λ z. AreBlocks z served.block.taken) (no_last took.lines took.last none) served.block.are_blocks);
-      counted = omega (arith, length-append h.lines took.lines, h.counted, took.counted);
-      taken = subst (Advances (start left) next.read) (all_bytes h.lines took.lines took.last none) (Advances-trans (start left) now.read next.read _ _ h.taken took.taken);
-      written = Appends-trans given now.written next.written _ _ h.written k.1;
-      writes = subst (λ z. Writes false s z (h.out ++ served.reply) next.state) (sym (with_command h.done served.block.taken served.command served.block.is_command))
-          (Writes-append false s now.state next.state _ _ h.out served.reply h.writes served.writes);
-    }
 
 -- ---- from what was taken out of the buffer to what was taken from the source
 
@@ -87,210 +53,201 @@ at_end_of : (c : List ℕ) (q : Option (List ℕ)) → IsAtEnd (prepend_known c 
 at_end_of c None e = tt
 at_end_of c (Some r) e = no_more c r e
 
--- ---- lines within the limit
+-- ---- lines that are whole, and lines within the limit
 
-limited_at : (ls more : List (List ℕ)) → length ls ≡ 1000000 → limited (ls ++ more) ≡ ls
-unfolding limited
-limited_at ls more h = take_at ls more 1000000 h
+whole_front : (ls more : List (List ℕ)) → AreWhole ls → filter is_whole (ls ++ more) ≡ ls ++ filter is_whole more
+whole_front ls more h = filter-append is_whole ls more ∙ ap (λ z. z ++ filter is_whole more) h.whole
 
-limited_more : (ls more : List (List ℕ)) (k : ℕ) → length ls + k ≡ 1000000 → limited (ls ++ more) ≡ ls ++ take k more
-unfolding limited
-limited_more ls more k h = ap (λ n. take n (ls ++ more)) (sym h) ∙ take-append-add ls more k
+firsts : (n : ℕ) (all ls more : List (List ℕ)) → all ≡ ls ++ more → length ls ≡ n → take n all ≡ ls
+firsts n all ls more e h = ap (take n) e ∙ take_at ls more n h
+
+-- the complete commands of what was taken begin with those served
+cut_said : (n : ℕ) (ls : List (List ℕ)) (bs : List Block) (c : List ℕ) (k : ℕ) → AreWhole ls → AreBlocks ls bs → length ls + k ≡ n
+    → commands_of false (filter is_whole (take n (raw_lines (concat ls ++ c)))) ≡ filter_map block_command bs ++ commands_of false (filter is_whole (take k (raw_lines c)))
+cut_said n ls bs c k are_whole are_blocks headroom =
+    let more = filter is_whole (take k (raw_lines c)) in
+    ap (commands_of false)
+    (ap (λ z. filter is_whole (take n z)) (are_whole.first c) ∙ ap (λ m. filter is_whole (take m (ls ++ raw_lines c))) (sym headroom)
+    ∙ ap (filter is_whole) (take-append-add ls (raw_lines c) k) ∙ whole_front ls (take k (raw_lines c)) are_whole)
+    ∙ ap (λ z. filter_map block_command (filter is_complete z)) (are_blocks.first more)
+    ∙ ap (filter_map block_command) (filter-append is_complete bs (blocks more) ∙ ap (λ z. z ++ filter is_complete (blocks more)) are_blocks.complete)
+    ∙ filter_map-append block_command bs (filter is_complete (blocks more))
 
 -- ---- the ends of a run
 
--- the whole input was taken and served
-record IsDone (left q : Option (List ℕ)) (s t : State) (given given' : Option (List ℕ)) : Type 0 where
+-- the whole input was taken, and has these commands
+record IsDone (left q : Option (List ℕ)) (cs : List Command) : Type 0 where
   input : List ℕ
-  out : List ℕ
   taken : Consumes left q input
   at_end : IsAtEnd q
-  written : Appends given given' out
   few : length (raw_lines input) ≤ 1000000
-  writes : Writes false s (all_commands input) out t
+  has : AreCommands true (raw_lines input) cs
 
 abbrev pub Ends : Result (Unit {0}) RunFault → Option (List ℕ) → Option (List ℕ) → State → State → Option (List ℕ) → Option (List ℕ) → Type 0
 Ends r left q s t given given' = (input : List ℕ) × (out : List ℕ) × Consumes left q input × Appends given given' out × Outcome q s t input out r
 
-ends_ok : (left q : Option (List ℕ)) (s t : State) (w y z : Option (List ℕ)) → IsDone left q s t w y → Keeps y z → (u : Unit {0}) → Ends (Ok u) left q s t w z
-ends_ok left q s t w y z o e u = (o.input, o.out, o.taken, Appends-kept w y z o.out o.written e, (o.few, answered true false (raw_lines o.input) (all_commands o.input) (all_is o.input) s o.out t o.writes))
-
-ends_flush : (left q : Option (List ℕ)) (s t : State) (w y z : Option (List ℕ)) → IsDone left q s t w y → Keeps y z → Ends (Err Write) left q s t w z
-ends_flush left q s t w y z o e = (
-  o.input,
-  o.out,
-  o.taken,
-  Appends-kept w y z o.out o.written e,
-  inr (o.at_end, o.few, answered true true (raw_lines o.input) (all_commands o.input) (all_is o.input) s o.out t (may_fail s (all_commands o.input) o.out t o.writes)),
-)
-
--- the lines so far, those taken behind them, and what has no LF
 module _ (left : Option (List ℕ)) (s : State) (given : Option (List ℕ)) (now next : Stage) (h : IsGoing left s given now) where
-  lines_behind : (ls : List (List ℕ)) (last : List ℕ) → AreWhole ls → raw_lines (concat h.lines ++ (concat ls ++ last)) ≡ h.lines ++ (ls ++ raw_lines last)
-  lines_behind ls last k = h.are_whole.first (concat ls ++ last) ∙ ap (λ z. h.lines ++ z) (k.first last)
+  -- the commands so far, and one more
+  abbrev said : Option Command → List Command
+  said command = filter_map block_command h.done ++ option_to_list command
 
-  few_behind : (ls : List (List ℕ)) (last : List ℕ) (count : ℕ) → count ≡ now.read.lines + length ls → count + length (raw_lines last) ≤ 1000000 → length (h.lines ++ (ls ++ raw_lines last)) ≤ 1000000
-  few_behind ls last count e few = omega (arith, length-append h.lines (ls ++ raw_lines last), length-append ls (raw_lines last), h.counted)
+  all_blocks : {command : Option Command} (block : TookBlock command true now.read next.read) → AreBlocks (h.took.lines ++ block.took.lines) (h.done ++ block.taken)
+  all_blocks block =
+      let none = ap raw_lines (block.took.none_last refl) in
+      AreBlocks-append h.took.lines block.took.lines h.done block.taken h.are_blocks (subst (λ z. AreBlocks z block.taken) (no_last block.took.lines (raw_lines block.took.last) none) block.are_blocks)
 
-  passed : (bs : List ℕ) → Advances now.read next.read bs → Advances (start left) next.read (concat h.lines ++ bs)
-  passed bs k = Advances-trans (start left) now.read next.read _ _ h.taken k
+  answered : (whole : Bool) (k : Served whole now next) → Writes false s (said k.command) (h.out ++ k.reply) next.state
+  answered whole k = Writes-append false s now.state next.state (filter_map block_command h.done) (option_to_list k.command) h.out k.reply h.writes k.writes
 
-  -- the commands of all, where those behind are one block
-  commands_behind : (ls : List (List ℕ)) (taken : List Block) (command : Option Command) → blocks ls ≡ taken → filter_map block_command taken ≡ option_to_list command
-      → commands (h.lines ++ ls) ≡ filter_map block_command h.done ++ option_to_list command
-  commands_behind ls taken command e f =
-      ap (filter_map block_command) (h.are_blocks.first ls ∙ ap (λ z. h.done ++ z) e) ∙ with_command h.done taken command f
-
-  -- or where none of them is complete
-  none_behind : (ls : List (List ℕ)) → filter is_complete (blocks ls) ≡ [] → filter_map block_command (filter is_complete (blocks (h.lines ++ ls))) ≡ filter_map block_command h.done
-  none_behind ls e =
-      ap (filter_map block_command)
-      (ap (filter is_complete) (h.are_blocks.first ls) ∙ filter-append is_complete h.done (blocks ls)
-      ∙ ap (λ z. z ++ filter is_complete (blocks ls)) h.are_blocks.complete ∙ ap (λ z. h.done ++ z) e ∙ append-nil h.done)
-
-  over : IsTurn (Ok false) now next → IsDone left next.read.left s next.state given next.written
-  unfolding all_commands
-  over k =
-      let served = k.0 in
-      let took = served.block.took in
-      let input = concat h.lines ++ (concat took.lines ++ took.last) in
-      let lines = lines_behind took.lines took.last took.are_whole in
-      let said : all_commands input ≡ filter_map block_command h.done ++ option_to_list served.command =
-      ap commands lines ∙ commands_behind (took.lines ++ raw_lines took.last) served.block.taken served.command served.block.are_blocks served.block.is_command in
-      record {
-        input = input;
-        out = h.out ++ served.reply;
-        taken = consumed_all left next.read.chunk next.read.left input (passed _ took.taken) (took.at_end refl);
-        at_end = at_end_of next.read.chunk next.read.left (took.at_end refl);
+  pub going_on : IsTurn (Ok true) now next → IsGoing left s given next
+  going_on k =
+      let block = k.0.block in record {
+        took = TookLines-trans true (start left) now.read next.read h.took block.took;
+        done = h.done ++ block.taken;
+        out = h.out ++ k.0.reply;
+        are_blocks = all_blocks block;
         written = Appends-trans given now.written next.written _ _ h.written k.1;
-        few = subst (λ z. length z ≤ 1000000) (sym lines) (few_behind took.lines took.last next.read.lines took.counted took.few);
-        writes = subst (λ z. Writes false s z (h.out ++ served.reply) next.state) (sym said) (Writes-append false s now.state next.state _ _ h.out served.reply h.writes served.writes);
+        writes = subst (λ z. Writes false s z (h.out ++ k.0.reply) next.state) (sym (with_command h.done block.taken k.0.command block.is_command)) (answered true k.0);
+      }
+
+  over : (command : Option Command) → TookBlock command false now.read next.read → IsDone left next.read.left (said command)
+  over command block =
+      let all = TookLines-trans false (start left) now.read next.read h.took block.took in
+      let input = concat all.lines ++ all.last in
+      let lines : raw_lines input ≡ all.lines ++ raw_lines all.last = all.are_whole.first all.last in
+      let is_over = block.took.at_end refl in record {
+        input = input;
+        taken = consumed_all left next.read.chunk next.read.left input all.taken is_over;
+        at_end = at_end_of next.read.chunk next.read.left is_over;
+        few = let few = all.few in omega (arith, ap length lines, length-append all.lines (raw_lines all.last), all.counted, few);
+        has = are_commands true (raw_lines input) (said command)
+            (ap (λ z. filter_map block_command (blocks z)) (lines ∙ append_assoc h.took.lines block.took.lines (raw_lines block.took.last))
+            ∙ ap (filter_map block_command) (h.are_blocks.first (block.took.lines ++ raw_lines block.took.last) ∙ ap (λ z. h.done ++ z) block.are_blocks)
+            ∙ with_command h.done block.taken command block.is_command);
       }
 
   -- the flush at the end succeeded or failed
   pub ends_sent : (r : Result (Unit {0}) RunFault) (z : Option (List ℕ)) → IsTurn (Ok false) now next → Keeps next.written z → IfErr r (λ fault. fault ≡ Write)
       → Ends r left next.read.left s next.state given z
-  ends_sent (Ok u) z k e f = ends_ok left next.read.left s next.state given next.written z (over k) e u
-  ends_sent (Err fault) z k e f =
-      subst (λ (x : RunFault). Ends (Err x) left next.read.left s next.state given z) (sym f) (ends_flush left next.read.left s next.state given next.written z (over k) e)
+  ends_sent r z k e f = by r f
+    where
+      o : IsDone left next.read.left (said k.0.command)
+      o = over k.0.command k.0.block
 
-  -- the replies so far, where nothing is answered
-  so_far : (cs : List Command) → cs ≡ filter_map block_command h.done → next.state ≡ now.state → Writes false s cs h.out next.state
-  so_far cs said same = subst (λ z. Writes false s z h.out next.state) (sym said) (subst (λ z. Writes false s (filter_map block_command h.done) h.out z) (sym same) h.writes)
+      written : Appends given z (h.out ++ k.0.reply)
+      written = Appends-kept given next.written z (h.out ++ k.0.reply) (Appends-trans given now.written next.written _ _ h.written k.1) e
+
+      failed : Ends (Err Write) left next.read.left s next.state given z
+      failed = (o.input, h.out ++ k.0.reply, o.taken, written, inr (o.at_end, o.few, (said k.0.command, o.has, may_fail s (said k.0.command) (h.out ++ k.0.reply) next.state (answered false k.0))))
+
+      by : (r : Result (Unit {0}) RunFault) → IfErr r (λ fault. fault ≡ Write) → Ends r left next.read.left s next.state given z
+      by (Ok u) f = (o.input, h.out ++ k.0.reply, o.taken, written, (o.few, (said k.0.command, o.has, answered false k.0)))
+      by (Err fault) f = subst (λ (x : RunFault). Ends (Err x) left next.read.left s next.state given z) (sym f) failed
+
+  -- where nothing is answered, and no block behind is complete
+  so_far : next.state ≡ now.state → Writes false s (filter_map block_command h.done) h.out next.state
+  so_far same = subst (λ z. Writes false s (filter_map block_command h.done) h.out z) (sym same) h.writes
+
+  none_behind : (ls : List (List ℕ)) → filter is_complete (blocks ls) ≡ [] → commands_of false (h.took.lines ++ ls) ≡ filter_map block_command h.done
+  none_behind ls e =
+      ap (filter_map block_command)
+      (ap (filter is_complete) (h.are_blocks.first ls) ∙ filter-append is_complete h.done (blocks ls)
+      ∙ ap (λ z. z ++ filter is_complete (blocks ls)) h.are_blocks.complete ∙ ap (λ z. h.done ++ z) e ∙ append-nil h.done)
 
   ends_read : BrokeBlock Read now.read next.read → next.state ≡ now.state → next.written ≡ now.written → Ends (Err Read) left next.read.left s next.state given next.written
-  unfolding complete_commands
   ends_read k same kept =
-      let ls = k.broke.lines in
-      let last = k.broke.cause.0 in
-      let input = concat h.lines ++ (concat ls ++ last) in
-      let lines = lines_behind ls last k.broke.are_whole in
-      let whole : whole_lines (raw_lines input) ≡ h.lines ++ ls =
-      ap whole_lines lines ∙ h.are_whole.whole (ls ++ raw_lines last) ∙ ap (λ z. h.lines ++ z) (k.broke.are_whole.whole (raw_lines last) ∙ ap (λ z. ls ++ z) (last_whole last k.broke.cause.1) ∙ append-nil ls) in
-      let said : complete_commands (raw_lines input) ≡ filter_map block_command h.done =
-      ap (λ z. filter_map block_command (filter is_complete (blocks z))) whole ∙ none_behind ls k.none_complete in (
+      let all = BrokeLines-behind Read (start left) now.read next.read h.took k.broke in
+      let ls = all.0.lines in
+      let last = all.0.cause.0 in
+      let input = concat ls ++ last in
+      let lines : raw_lines input ≡ ls ++ raw_lines last = all.0.are_whole.first last in
+      let whole : filter is_whole (raw_lines input) ≡ ls =
+      ap (filter is_whole) lines ∙ whole_front ls (raw_lines last) all.0.are_whole ∙ ap (λ z. ls ++ z) (last_whole last all.0.cause.1) ∙ append-nil ls in (
         input,
         h.out,
-        subst (λ z. Consumes left next.read.left z) (ap (λ z. input ++ z) k.broke.cause.2 ∙ append-nil input) (consumed left next.read.chunk next.read.left input (passed _ k.broke.cause.3)),
+        subst (λ z. Consumes left next.read.left z) (ap (λ z. input ++ z) all.0.cause.2 ∙ append-nil input) (consumed left next.read.chunk next.read.left input all.0.cause.3),
         subst (λ z. Appends given z h.out) (sym kept) h.written,
         (
-          subst (λ z. length z ≤ 1000000) (sym lines) (few_behind ls last (now.read.lines + length ls) refl k.broke.cause.4),
-          answered false false (filter is_whole (raw_lines input)) (complete_commands (raw_lines input)) (read_is input) s h.out next.state (so_far _ said same),
+          omega (arith, ap length lines, length-append ls (raw_lines last), all.0.cause.4),
+          (
+            filter_map block_command h.done,
+            are_commands false (filter is_whole (raw_lines input)) _ (ap (commands_of false) (whole ∙ all.1) ∙ none_behind k.broke.lines k.none_complete),
+            so_far same,
+          ),
         ),
       )
 
   ends_limit : BrokeBlock ScriptLimit now.read next.read → next.state ≡ now.state → next.written ≡ now.written → Ends (Err ScriptLimit) left next.read.left s next.state given next.written
-  unfolding complete_commands
   ends_limit k same kept =
-      let ls = k.broke.lines in
-      let byte = k.broke.cause.0 in
+      let all = BrokeLines-behind ScriptLimit (start left) now.read next.read h.took k.broke in
+      let ls = all.0.lines in
+      let byte = all.0.cause.0 in
       let c = next.read.chunk in
-      let are_whole = AreWhole-append h.lines ls h.are_whole k.broke.are_whole in
-      let full : length (h.lines ++ ls) ≡ 1000000 = omega (arith, length-append h.lines ls, h.counted, k.broke.cause.2) in
-      let bytes : concat h.lines ++ (concat ls ++ byte ∷ []) ≡ concat (h.lines ++ ls) ++ byte ∷ [] = sym (append_assoc (concat h.lines) (concat ls) (byte ∷ [])) ∙ ap (λ z. z ++ byte ∷ []) (sym (concat-append h.lines ls)) in
-      let taken : Advances (start left) next.read (concat (h.lines ++ ls) ++ byte ∷ []) = subst (Advances (start left) next.read) bytes (passed _ k.broke.cause.1) in
-      let input = (concat (h.lines ++ ls) ++ byte ∷ []) ++ c in
-      let lines : raw_lines input ≡ (h.lines ++ ls) ++ raw_lines (byte ∷ c) = ap raw_lines (append_assoc (concat (h.lines ++ ls)) (byte ∷ []) c) ∙ are_whole.first (byte ∷ c) in
-      let firsts : limited (raw_lines input) ≡ h.lines ++ ls = ap limited lines ∙ limited_at (h.lines ++ ls) (raw_lines (byte ∷ c)) full in
-      let whole : whole_lines (h.lines ++ ls) ≡ h.lines ++ ls = ap whole_lines (sym (append-nil (h.lines ++ ls))) ∙ are_whole.whole [] ∙ append-nil (h.lines ++ ls) in
-      let many : 1000000 < length (raw_lines input) = omega (arith, ap length lines, length-append (h.lines ++ ls) (raw_lines (byte ∷ c)), full, some_line byte c) in
-      let said : complete_commands (limited (raw_lines input)) ≡ filter_map block_command h.done =
-      ap (λ z. filter_map block_command (filter is_complete (blocks z))) (ap whole_lines firsts ∙ whole) ∙ none_behind ls k.none_complete in (
+      let input = (concat ls ++ byte ∷ []) ++ c in
+      let lines : raw_lines input ≡ ls ++ raw_lines (byte ∷ c) = ap raw_lines (append_assoc (concat ls) (byte ∷ []) c) ∙ all.0.are_whole.first (byte ∷ c) in
+      let full : length ls ≡ 1000000 = omega (arith, all.0.cause.2) in
+      let many : 1000000 < length (raw_lines input) = omega (arith, ap length lines, length-append ls (raw_lines (byte ∷ c)), full, some_line byte c) in (
         input,
         h.out,
-        consumed left c next.read.left _ taken,
+        consumed left c next.read.left _ all.0.cause.1,
         subst (λ z. Appends given z h.out) (sym kept) h.written,
-        (many, answered false false (take 1000000 (raw_lines input)) (complete_commands (limited (raw_lines input))) (many_is input many) s h.out next.state (so_far _ said same)),
+        (
+          many,
+          (
+            filter_map block_command h.done,
+            are_commands false (take 1000000 (raw_lines input)) _
+                (ap (commands_of false) (firsts 1000000 (raw_lines input) ls (raw_lines (byte ∷ c)) lines full ∙ all.1) ∙ none_behind k.broke.lines k.none_complete),
+            so_far same,
+          ),
+        ),
       )
 
--- the complete commands of what was taken begin with those served
-cut_said : (ls : List (List ℕ)) (bs : List Block) (c : List ℕ) (k : ℕ) → AreWhole ls → AreBlocks ls bs → length ls + k ≡ 1000000
-    → complete_commands (limited (raw_lines (concat ls ++ c))) ≡ filter_map block_command bs ++ complete_commands (take k (raw_lines c))
-unfolding complete_commands
-cut_said ls bs c k are_whole are_blocks headroom =
-    let more = take k (raw_lines c) in
-    ap (λ z. filter_map block_command (filter is_complete (blocks z)))
-    (ap (λ z. whole_lines (limited z)) (are_whole.first c) ∙ ap whole_lines (limited_more ls (raw_lines c) k headroom) ∙ are_whole.whole more)
-    ∙ ap (λ z. filter_map block_command (filter is_complete z)) (are_blocks.first (whole_lines more))
-    ∙ ap (filter_map block_command) (filter-append is_complete bs (blocks (whole_lines more)) ∙ ap (λ z. z ++ filter is_complete (blocks (whole_lines more))) are_blocks.complete)
-    ∙ filter_map-append block_command bs (filter is_complete (blocks (whole_lines more)))
-
-module _ (left : Option (List ℕ)) (s : State) (given : Option (List ℕ)) (now next : Stage) (h : IsGoing left s given now) where
   module _ (whole : Bool) (k : Served whole now next) (w : AppendsFront now.written next.written k.reply) where
     -- the replies, with the front of the last one that was written
     abbrev out : List ℕ
     out = h.out ++ take w.0 k.reply
 
-    written : Appends given next.written out
-    written = Appends-trans given now.written next.written _ _ h.written w.2
-
-    front : (cs others : List Command) → cs ≡ (filter_map block_command h.done ++ option_to_list k.command) ++ others → Writes true s cs out next.state
-    front cs others e =
+    front : (others : List Command) → Writes true s (said k.command ++ others) out next.state
+    front others =
         let all = subst (λ x. Writes false now.state (option_to_list k.command) x next.state) (sym (take-append-drop w.0 k.reply)) k.writes in
-        subst (λ (ds : List Command). Writes true s ds out next.state) (sym (e ∙ append_assoc (filter_map block_command h.done) (option_to_list k.command) others))
+        subst (λ (ds : List Command). Writes true s ds out next.state) (sym (append_assoc (filter_map block_command h.done) (option_to_list k.command) others))
         (Writes-append true s now.state next.state (filter_map block_command h.done) (option_to_list k.command ++ others) h.out (take w.0 k.reply) h.writes
         (last_written now.state next.state k.command others (take w.0 k.reply) (drop w.0 k.reply) all))
 
     ends_write : (whole : Bool) → TookBlock k.command whole now.read next.read → Ends (Err Write) left next.read.left s next.state given next.written
     ends_write true block =
         let c = next.read.chunk in
-        let took = block.took in
-        let none = took.none_last refl in
-        let are_blocks = AreBlocks-append h.lines took.lines h.done block.taken h.are_blocks (subst (λ z. AreBlocks z block.taken) (no_last took.lines took.last none) block.are_blocks) in
-        let said = cut_said (h.lines ++ took.lines) (h.done ++ block.taken) c (1000000 - next.read.lines) (AreWhole-append h.lines took.lines h.are_whole took.are_whole) are_blocks
-        (let few = took.few in omega (arith, few, length-append h.lines took.lines, h.counted, took.counted)) in
-        let input = concat (h.lines ++ took.lines) ++ c in
-        let more = complete_commands (take (1000000 - next.read.lines) (raw_lines c)) in (
+        let all = TookLines-trans true (start left) now.read next.read h.took block.took in
+        let input = concat all.lines ++ c in
+        let more = commands_of false (filter is_whole (take (1000000 - next.read.lines) (raw_lines c))) in
+        let headroom : length all.lines + (1000000 - next.read.lines) ≡ 1000000 = let few = all.few in omega (arith, few, all.counted) in (
           input,
           out,
-          consumed left c next.read.left _ (subst (Advances (start left) next.read) (all_bytes h.lines took.lines took.last none) (passed left s given now next h _ took.taken)),
-          written,
-          inl (answered false true (filter is_whole (take 1000000 (raw_lines input))) (complete_commands (limited (raw_lines input))) (cut_is input) s out next.state
-              (front (complete_commands (limited (raw_lines input))) more (said ∙ ap (λ z. z ++ more) (with_command h.done block.taken k.command block.is_command)))),
+          consumed left c next.read.left _ (subst (Advances (start left) next.read) (no_last (concat all.lines) all.last (all.none_last refl)) all.taken),
+          Appends-trans given now.written next.written _ _ h.written w.2,
+          inl (
+            said k.command ++ more,
+            are_commands false (filter is_whole (take 1000000 (raw_lines input))) _
+                (cut_said 1000000 all.lines (h.done ++ block.taken) c (1000000 - next.read.lines) all.are_whole (all_blocks block) headroom
+                ∙ ap (λ z. z ++ more) (with_command h.done block.taken k.command block.is_command)),
+            front more,
+          ),
         )
     ends_write false block =
-        let took = block.took in
-        let input = concat h.lines ++ (concat took.lines ++ took.last) in
-        let lines = lines_behind left s given now next h took.lines took.last took.are_whole in
-        let few = few_behind left s given now next h took.lines took.last next.read.lines took.counted took.few in
-        let said = all_is _ ∙ ap commands lines ∙ commands_behind left s given now next h (took.lines ++ raw_lines took.last) block.taken k.command block.are_blocks block.is_command in (
-          input,
+        let o = over k.command block in
+        let nil = append-nil (said k.command) in (
+          o.input,
           out,
-          consumed_all left next.read.chunk next.read.left _ (passed left s given now next h _ took.taken) (took.at_end refl),
-          written,
-          inr (
-            at_end_of next.read.chunk next.read.left (took.at_end refl),
-            subst (λ z. length z ≤ 1000000) (sym lines) few,
-            answered true true (raw_lines input) (all_commands input) (all_is input) s out next.state
-                (front (all_commands input) [] (said ∙ sym (append-nil (filter_map block_command h.done ++ option_to_list k.command)))),
-          ),
+          o.taken,
+          Appends-trans given now.written next.written _ _ h.written w.2,
+          inr (o.at_end, o.few, (said k.command, o.has, subst (λ (ds : List Command). Writes true s ds out next.state) nil (front []))),
         )
 
   pub ends_stopped : (e : RunFault) → Stopped e now next → Ends (Err e) left next.read.left s next.state given next.written
-  ends_stopped Memory k = absurd k
-  ends_stopped Read k = ends_read left s given now next h k.0 k.1 k.2
+  ends_stopped Memory k = absurd k.0.broke.cause
+  ends_stopped Read k = ends_read k.0 k.1 k.2
   ends_stopped Write k = ends_write k.0 k.1 k.2 k.0 k.1.block
-  ends_stopped ScriptLimit k = ends_limit left s given now next h k.0 k.1 k.2
+  ends_stopped ScriptLimit k = ends_limit k.0 k.1 k.2
 
 pub still_few : (whole : Bool) (old new : Stage) → IsTurn (Ok whole) old new → new.read.lines ≤ 1000000
 still_few whole old new k = let few = k.0.block.took.few in omega arith

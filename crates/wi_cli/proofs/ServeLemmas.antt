@@ -1,8 +1,8 @@
 -- What is told of a line that was served.
-use Rattle.wi_cli.proofs.Vocabulary.{◌≡◌, Bool, Err, List, Ok, Result, Some, [], ap, append-nil, false, refl, subst, sym, ℕ, ◌++◌, ◌∙◌, list_any, IsRead, command_of, IsServed, KeepsMemory, RefusedAs, Told, Done, MayRefuse, lies_outside, As, Command, Csv, Drop, IsImportStep, IsStep, State, Refusal, placed, form, Refused}
+use Rattle.wi_cli.proofs.Vocabulary.{◌≡◌, Bool, Err, List, Ok, Result, Some, [], ap, append-nil, false, refl, subst, sym, ℕ, ◌++◌, ◌∙◌, list_any, IsRead, command_of, IsServed, KeepsMemory, RefusedAs, Told, Done, MayRefuse, lies_outside, Command, Csv, IsImportStep, IsStep, State, Refusal, placed, form, Refused, ReadCommand}
+use Rattle.wi_scenarios.specs.Commands.Command.{Drop, As}
 use Rattle.wi_scenarios.specs.declared.refusal.Refusal.TheVariants.{Memory}
 use Rattle.wi_scenarios.specs.Answer as answer
-use Rattle.wi_cli.specs.declared.command.Command.{Command as ReadCommand}
 use Rattle.wi_cli.proofs.Ties.Operands.{spans}
 use Rattle.wi_cli.proofs.Ties.Replies.{may_lack}
 

@@ -1,7 +1,7 @@
 -- Lines that were taken from the source, and the block that they are.
-use Rattle.wi_cli.proofs.Vocabulary.{◌≡◌, ℕ, ◌+◌, ◌<◌, ◌≤◌, Bool, true, false, cond, List, [], ◌∷◌, ◌++◌, length, refl, sym, ap, ◌∙◌, subst, Option, None, Some, append_assoc, append-nil, length-append, arith, concat, cons_option, option_to_list, prepend_known, Consumes-nil, concat-append, false≢true, ltb-true, ltb-false, read_address, RunFault, Memory, Read, Write, ScriptLimit, DataLines, raw_lines, without_lf, without_cr, is_whole, csv_line, Block, lines_of, begun, is_complete, blocks, line_command, command_with, block_command, Place, Advances, IsOver, raw, TookNext, BrokeNext, TookLines, BrokeLines, command_of_csv, TookData, BrokeData, TookBlock, BrokeBlock, spelled_cell, Command, Csv, Unreadable, filter, filter_map}
+use Rattle.wi_cli.proofs.Vocabulary.{◌≡◌, ℕ, ◌+◌, ◌<◌, ◌≤◌, Bool, true, false, cond, List, [], ◌∷◌, ◌++◌, length, refl, sym, ap, ◌∙◌, subst, Option, None, Some, append_assoc, append-nil, length-append, arith, concat, cons_option, option_to_list, prepend_known, Consumes-nil, concat-append, false≢true, ltb-true, ltb-false, read_address, RunFault, Memory, Read, Write, ScriptLimit, DataLines, raw_lines, without_lf, without_cr, is_whole, csv_line, Block, lines_of, begun, is_complete, blocks, line_command, command_with, block_command, Place, Advances, IsOver, raw, TookNext, BrokeNext, TookLines, BrokeLines, command_of_csv, TookData, BrokeData, TookBlock, BrokeBlock, spelled_cell, Command, Csv, Unreadable, filter, filter_map, ReadCsv}
 use Rattle.std.specs.Str.{is_utf8, chars}
-use Rattle.wi_cli.specs.declared.csv_line.CsvLine.{CsvLine as ReadCsv}
+use Rattle.wi_cli.proofs.Ties.LinesRead.{alone}
 use Rattle.wi_cli.proofs.ReadingLemmas.{Takes-trans}
 use Rattle.wi_cli.proofs.LineLemmas.{AreWhole-none, AreWhole-one, AreWhole-append, raw_lines-last, raw_lines-raw, without_lf-raw, few_last, block_of, block_at, block_lacks}
 
@@ -60,8 +60,8 @@ pub taken_lines : (whole : Bool) (p q : Place) (line : List ℕ) (most : p.lines
 taken_lines true p q line most k = sym (raw_lines-raw k.took.content k.took.no_lf)
 taken_lines false p q line most k = ap raw_lines (sym (append-nil k.took.content))
 
-pub no_last : (xs ys : List ℕ) → ys ≡ [] → xs ++ ys ≡ xs
-no_last xs ys e = ap (λ z. xs ++ z) e ∙ append-nil xs
+pub no_last : {X : Type 0} (xs ys : List X) → ys ≡ [] → xs ++ ys ≡ xs
+no_last {X} xs ys e = ap (λ z. xs ++ z) e ∙ append-nil xs
 
 -- bytes behind lines that were taken whole
 behind : (p q r : Place) (h : TookLines true p q) (ys : List ℕ) → Advances q r ys → Advances p r (concat h.lines ++ ys)
@@ -96,7 +96,7 @@ next_broke ScriptLimit q r k most =
     let full : 1000000 ≤ q.lines = ltb-false q.lines 1000000 k.1 in
     (record { lines = []; are_whole = AreWhole-none; cause = (k.0, k.2, omega (arith, full)) }, refl)
 
-BrokeLines-behind : (fault : RunFault) (p q r : Place) → (h : TookLines true p q) → (k : BrokeLines fault q r) → (d : BrokeLines fault p r) × (d.lines ≡ h.lines ++ k.lines)
+pub BrokeLines-behind : (fault : RunFault) (p q r : Place) → (h : TookLines true p q) → (k : BrokeLines fault q r) → (d : BrokeLines fault p r) × (d.lines ≡ h.lines ++ k.lines)
 BrokeLines-behind Memory p q r h k = absurd k.cause
 BrokeLines-behind Write p q r h k = absurd k.cause
 BrokeLines-behind Read p q r h k = (
@@ -138,12 +138,8 @@ none_asked : csv_line [] ≡ None
 unfolding csv_line
 none_asked = refl
 
-to_list : (o : Option Command) → cons_option o [] ≡ option_to_list o
-to_list None = refl
-to_list (Some c) = refl
-
 one_command : (b : Block) (o : Option Command) → block_command b ≡ o → filter_map block_command (b ∷ []) ≡ option_to_list o
-one_command b o e = ap (λ x. cons_option x []) e ∙ to_list o
+one_command b o e = ap (λ x. cons_option x []) e ∙ alone o
 
 -- the command of a line that asks for no data lines
 plain_command : (line content : List ℕ) (ds : List (List ℕ)) (m : ℕ) → without_lf line ≡ content → csv_line content ≡ None → block_command (block_of line ds m) ≡ line_command content

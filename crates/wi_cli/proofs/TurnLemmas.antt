@@ -1,5 +1,5 @@
 -- A line served, and its reply written, one after another.
-use Rattle.wi_cli.proofs.Vocabulary.{◌≡◌, Bool, true, false, ℕ, List, [], ◌∷◌, ◌++◌, inl, inr, refl, sym, ap, ◌∙◌, subst₂, false≢true, Option, None, Some, append-nil, append_assoc, option_to_list, refused, State, Reply, Passed, Done, Told, reply_bytes, Replies, Writes, Command, Refused, ◌+◌, ◌<◌, ◌≤◌, ◌||◌, not, cond, ltb, ⊎_elim, length, take, subst, Appends-nil, length-append, arith, Appends, Appends-trans, take-append-le, length-take, take_all, lt-ltb, cases_lt, is_utf8, without_cr, take-append-add, AppendsFront, csv_line, line_command, text_command, line_front, RunFault, Result, Err, Memory, Read, Write, ScriptLimit, Place, Stage, TookNext, Broke, TookBlock, BrokeBlock, Served, Stopped, IsTurn, Ok, CanRead, ReadsOn, IsReplied, Unreadable}
+use Rattle.wi_cli.proofs.Vocabulary.{◌≡◌, Bool, true, false, ℕ, List, [], ◌∷◌, ◌++◌, inl, inr, refl, sym, ap, ◌∙◌, subst₂, false≢true, Option, None, Some, append-nil, append_assoc, option_to_list, refused, State, Reply, Passed, Done, Told, reply_bytes, Replies, Writes, Command, Refused, ◌+◌, ◌<◌, ◌≤◌, ◌||◌, not, cond, ltb, ⊎_elim, length, take, subst, Appends-nil, length-append, arith, Appends, Appends-trans, take-append-le, length-take, take_all, lt-ltb, cases_lt, is_utf8, without_cr, take-append-add, AppendsFront, csv_line, line_command, text_command, line_front, RunFault, Result, Err, Memory, Write, Place, Stage, TookNext, Broke, TookBlock, BrokeBlock, Served, Stopped, IsTurn, Ok, CanRead, ReadsOn, IsReplied, Unreadable}
 use Rattle.wi_cli.proofs.Ties.Replies.{done, refused_as}
 use Rattle.wi_cli.proofs.ReadingLemmas.{stops_unwritten}
 use Rattle.wi_cli.proofs.TakenLemmas.{plain_block}
@@ -86,10 +86,8 @@ passed old new k same kept = (served old new Passed [] k same, subst (λ w. Appe
 
 -- no block was taken, and nothing is answered
 pub stopped : (e : RunFault) (old new : Stage) → BrokeBlock e old.read new.read → new.state ≡ old.state → new.written ≡ old.written → Stopped e old new
-stopped Memory old new k same kept = absurd k.broke.cause
-stopped Read old new k same kept = (k, same, kept)
 stopped Write old new k same kept = absurd k.broke.cause
-stopped ScriptLimit old new k same kept = (k, same, kept)
+stopped e old new k same kept = (k, same, kept)
 
 -- a block was taken and served, and its reply was written, or a front of it
 pub answered : (r : Result Bool RunFault) (whole : Bool) (old new : Stage) {command : Option Command} (a : Reply) (out : List ℕ) → TookBlock command whole old.read new.read

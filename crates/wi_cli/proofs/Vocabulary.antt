@@ -1,6 +1,6 @@
 -- The words of the library, of the crates below and of this crate's definitions that its proofs are written in.
 pub use Rattle.memchr.specs.Find.{NoneBefore, Nowhere, Passes, is_byte}
-pub use Rattle.std.proofs.Common.{Bool, Err, IfErr, IfOk, List, None, Ok, OnOk, Option, Result, Some, [], ap, append-nil, append_assoc, ap₂, arith, bytes_eq, codes, cond, drop, eqb, false, filter, filter_map, get_or, if◌then◌else◌, inl, inr, length, length-append, ltb, max, min, nat_eq, nat_le, nat_lt, not, ok_or, option_map, refl, rules, subst, subst₂, suc, sym, take, tests, true, vec_capacity, zero, ℕ, ⊎_elim, ◌%◌, ◌&&◌, ◌*◌, ◌++◌, ◌+◌, ◌-◌, ◌/◌, ◌<◌, ◌==◌, ◌||◌, ◌∙◌, ◌∷◌, ◌≡◌, ◌≤◌, ◌⊎◌}
+pub use Rattle.std.proofs.Common.{Bool, Err, IfErr, IfOk, List, None, Ok, OnOk, Option, Result, Some, [], ap, append-nil, append_assoc, ap₂, arith, bytes_eq, codes, cond, drop, eqb, false, filter, filter_map, get_or, if◌then◌else◌, inl, inr, length, length-append, ltb, max, min, nat_eq, nat_le, nat_lt, not, ok_or, option_map, refl, rules, subst, subst₂, suc, sym, take, tests, true, vec_capacity, zero, ℕ, ⊎_elim, ◌%◌, ◌&&◌, ◌*◌, ◌++◌, ◌+◌, ◌-◌, ◌/◌, ◌<◌, ◌==◌, ◌||◌, ◌∙◌, ◌∷◌, ◌≡◌, ◌≤◌, ◌⊎◌, map}
 pub use Rattle.std.proofs.KnownBytes.{Appends-kept, Appends-nil, Appends-trans, Consumes-nil, Consumes-trans}
 pub use Rattle.std.proofs.Math.Bool.{or-false, or-true}
 pub use Rattle.std.proofs.Math.Seq.{drop-append_seam, take-add, take-append-add, take-append_seam}
@@ -20,19 +20,16 @@ pub use Rattle.std.specs.Cmp.Lexicographic.{pointwise}
 pub use Rattle.std.specs.Io.KnownBytes.{Appends, Consumes, IsAtEnd, Keeps, prepend_known}
 pub use Rattle.std.specs.List.{Contains, after_first, before_first, concat, cons_option, list_all, list_any, position, position_or_len, prefix_len}
 pub use Rattle.std.specs.Option.{IfSome, option_to_list}
-pub use Rattle.std.specs.Prelude.{is_ok}
-pub use Rattle.std.specs.Result.{result_err}
 pub use Rattle.std.specs.Str.{IsCharBoundary, IsUtf8, all_ascii_digits, byte, is_utf8}
-unfoldable pub use Rattle.std.specs.Str.{chars}
 pub use Rattle.std.specs.Str.Parse.{digits_value, digits_value_after}
 pub use Rattle.std.specs.Str.Pattern.{CutsPrefixes, FindsCharPrefix, IsTrimStartMatches}
 pub use Rattle.wi_cli.specs.Events.{AreEvents}
 pub use Rattle.wi_cli.specs.InTurn.{RunInTurn}
 pub use Rattle.wi_cli.specs.Inner.Reading.{Takes, budget, Advances, BrokeNext, IsOver, Place, Stage, TookNext, place_of, stage_of, Broke, CanRead, HasStopped, ReadsOn, TookLine, TookPart, raw}
 pub use Rattle.wi_cli.specs.Inner.Data.{IsAsked, AddedTo, BrokeData, HoldsLines, IsCsv, IsTarget, TookData, command_of_csv, target_of, wants}
-pub use Rattle.wi_cli.specs.Inner.Script.{Block, begun, blocks, blocks_from, is_complete, lines_of, with_data, CsvLine, csv_by_name, csv_named, csv_of, csv_operands, csv_text, is_long, read_lines, block_command, command_with, commands, is_comment, text_command, whole_lines}
-unfoldable pub use Rattle.wi_cli.specs.Inner.Script.{csv_line, all_commands, complete_commands, limited, line_command}
-pub use Rattle.wi_cli.specs.Inner.Forms.{AND, A_CELL, A_NAME, A_RECT, A_SESSION, A_SIDE, END, Form, Kind, MAYBE, TEXT, Value, Values, Words, as_form, base_form, changes_form, clear_form, compare_form, drop_form, edit_forms, export_form, fill_form, formula_form, forms, made, named_command, named_in, read_word, read_words, scenario_form, set_form, show_form, table_form, use_form}
+pub use Rattle.wi_cli.specs.Inner.Script.{Block, begun, blocks, blocks_from, is_complete, lines_of, with_data, CsvLine, csv_by_name, csv_named, csv_of, csv_operands, csv_text, is_long, read_lines, block_command, command_with, is_comment, text_command, asked}
+unfoldable pub use Rattle.wi_cli.specs.Inner.Script.{csv_line, line_command}
+pub use Rattle.wi_cli.specs.Inner.Forms.{AND, A_CELL, A_NAME, A_RECT, A_SESSION, A_SIDE, END, Kind, MAYBE, TEXT, Value, Values, Verb, Words, edits, form_of, made, named_command, named_in, read_word, read_words, verbs}
 unfoldable pub use Rattle.wi_cli.specs.Inner.Forms.{spelled, spelled_command}
 pub use Rattle.wi_cli.specs.Inner.Turn.{AppendsFront, AreBlocks, AreBlocksOf, AreWhole, BrokeLines, TookLines, BrokeBlock, IsReplied, IsTurn, Served, Stopped, TookBlock}
 pub use Rattle.wi_cli.specs.Inner.Operands.{Reading, at_end, both, is_all_spaces, line_fault, name_or_none, of_name, of_operand, only_name, read_any, read_any_area, read_by, read_side, spelled_corners, unless_refused, worse, IsReadAs, IsReading, command_of, placed, fill_of, table_behind, table_of_one, table_of_two}
@@ -40,20 +37,16 @@ unfoldable pub use Rattle.wi_cli.specs.Inner.Operands.{spelled_cell, spelled_rec
 unfoldable pub use Rattle.wi_cli.specs.Inner.Reading.{line_front}
 pub use Rattle.wi_cli.specs.Inner.Told.{reply, refused_cell, IsServed, KeepsMemory, RefusedAs, Told, reply_bytes}
 unfoldable pub use Rattle.wi_cli.specs.Inner.Told.{refused}
-pub use Rattle.wi_cli.specs.Laws.{SameAddr, SameRect, Splits, a_line, asked, blocks_that_count, commands_of, cut_short, line_block, none}
-pub use Rattle.wi_cli.specs.Lines.{Bytes, after_word, first_word, is_space, is_whole, max_line, max_lines, onto_first, raw_lines, skip_spaces, without_cr, without_lf}
+pub use Rattle.wi_cli.specs.Inner.Words.{AddressFault, All, DataLines, Done, Held, Lacking, Line, Passed, Refusal, Refused, Reply, RunFault, Shape, has_session, is_ok, result_err}
+pub use Rattle.wi_cli.specs.Laws.{SameAddr, SameRect, Splits, a_line, blocks_that_count, commands_of, cut_short, line_block, none}
+pub use Rattle.wi_cli.specs.Lines.{Bytes, after_word, first_word, is_space, is_whole, max_line, onto_first, raw_lines, skip_spaces, without_cr, without_lf}
 pub use Rattle.wi_cli.specs.Outcome.{IsRun, Outcome, Writes}
 pub use Rattle.wi_cli.specs.Reply.{MayLackMemory, Replies, accepted, cell_named, late, unserved}
 pub use Rattle.wi_cli.specs.Script.{AreCommands, Asks, IsCommand, IsGood, IsWithin, is_passed_over, line_text}
 pub use Rattle.wi_cli.specs.Spelled.{IsAddr, IsRect, IsSpelled, IsWritten, a_cell, addr, two_cells}
-pub use Rattle.wi_cli.specs.declared.data_lines.DataLines.{DataLines}
-pub use Rattle.wi_cli.specs.declared.data_lines.Held.{Held}
-pub use Rattle.wi_cli.specs.declared.data_lines.Held.TheVariants.{All, Lacking}
-pub use Rattle.wi_cli.specs.declared.fault.RunFault.{RunFault}
+pub use Rattle.wi_cli.specs.declared.command.Command.{Command as ReadCommand}
+pub use Rattle.wi_cli.specs.declared.csv_line.CsvLine.{CsvLine as ReadCsv}
 pub use Rattle.wi_cli.specs.declared.fault.RunFault.TheVariants.{Memory, Read, ScriptLimit, Write}
-pub use Rattle.wi_cli.specs.declared.line.Line.{Line}
-pub use Rattle.wi_cli.specs.declared.reply.Reply.{Reply}
-pub use Rattle.wi_cli.specs.declared.reply.Reply.TheVariants.{Done, Passed, Refused}
 pub use Rattle.wi_propagate.specs.KeptSheet.{KeptSheet}
 pub use Rattle.wi_reports.specs.Inner.Shape.{has_row, entries}
 pub use Rattle.wi_scenario_list.specs.Bases.{lacks}
@@ -66,17 +59,15 @@ pub use Rattle.wi_scenarios.proofs.LookSteps.{show_step, export_step, compare_st
 pub use Rattle.wi_scenarios.proofs.OperandLemmas.{placed_again, spanned_again}
 pub use Rattle.wi_scenarios.proofs.SetSteps.{set_none}
 pub use Rattle.wi_scenarios.proofs.StepLemmas.{no_other}
-pub use Rattle.wi_scenarios.specs.Answer.{Answer, MayGrow, MayRefuse, may_grow}
-pub use Rattle.wi_scenarios.specs.Commands.Causes.{BadCommand, BadField, BadLine, Cause, CutShort, EditLimit, Full, Holds, InUse, IsFirst, LeavesSheet, Loop, NoScenario, NumberRange, OutOfSheet, Outside, Stale, Syntax, TooDeep, TooLarge, TooLong, TooMany, cells_asked, lies_outside, order, stale_cell}
-pub use Rattle.wi_scenarios.specs.Commands.Command.{As, Base, Changes, Clear, Command, Compare, Csv, Drop, Export, Fill, Formula, Scenario, Set, Show, Table, Unknown, Unreadable, Use, form, may_force}
+pub use Rattle.wi_scenarios.specs.Answer.{Answer, MayGrow, MayRefuse, may_grow, code_of}
+pub use Rattle.wi_scenarios.specs.Commands.Causes.{BadCommand, BadField, BadLine, Cause, CutShort, EditLimit, Full, Holds, IsFirst, LeavesSheet, NumberRange, OutOfSheet, Outside, Stale, Syntax, TooDeep, cells_asked, lies_outside, order, stale_cell}
+pub use Rattle.wi_scenarios.specs.Commands.Command.{Command, Csv, Unknown, Unreadable, form, may_force}
 pub use Rattle.wi_scenarios.specs.Commands.Operands.{ADDR, ANY, CONTENT, Cell, CornerCells, LINES, NAME, Operand, RECT, SESSION, SIDE, WORD, address, area, cell, is_outside, second_input}
 pub use Rattle.wi_scenarios.specs.Commands.Step.{IsFirstOf, IsImportStep, IsStep, Tells, causes}
 pub use Rattle.wi_scenarios.specs.Events.{MayHappen, left_by}
 pub use Rattle.wi_scenarios.specs.Inner.Placed.{IsTablePlaced}
 pub use Rattle.wi_scenarios.specs.Pending.{Book}
 pub use Rattle.wi_scenarios.specs.State.{State, max_area, new_state, state_over}
-pub use Rattle.wi_scenarios.specs.declared.refusal.Refusal.{Refusal}
-pub use Rattle.wi_sessions.specs.Sessions.{has_session}
 pub use Rattle.wi_store.specs.Store.{Stored}
 pub use Rattle.wi_store.specs.declared.limits.Limits.{Limits}
 pub use Rattle.wi_values.proofs.Letters.{letters_of_column}
@@ -89,5 +80,3 @@ unfoldable pub use Rattle.wi_values.specs.Address.{address_text, letters_within}
 pub use Rattle.wi_values.specs.AddressReading.{cell_at, corners}
 unfoldable pub use Rattle.wi_values.specs.AddressReading.{address_at, read_address, read_rect}
 pub use Rattle.wi_values.specs.Name.{is_name, read_name}
-pub use Rattle.wi_values.specs.declared.address.AddressFault.{AddressFault}
-pub use Rattle.wi_values.specs.declared.address.AddressFault.TheVariants.{Shape}

@@ -1,13 +1,9 @@
 -- As what words and lines are read: cells and rectangles of any size, and commands.
-use Rattle.std.specs.Prelude.{◌≡◌, ◌⊎◌, ◌-◌, ◌<◌, ℕ, Bool, true, false, List, [], ◌∷◌, ◌++◌, length, filter, filter_map, Some}
-use Rattle.wi_values.specs.AddressReading.{read_address, read_rect}
-use Rattle.wi_scenarios.specs.Commands.Operands.{Cell, CornerCells}
-use Rattle.wi_scenarios.specs.Commands.Command.{Command}
-use Rattle.wi_cli.specs.Lines.{without_lf, Bytes}
+use Rattle.wi_cli.specs.Inner.Words.{Bool, Cell, Command, CornerCells, List, Some, [], false, filter, filter_map, length, read_address, read_rect, true, ◌++◌, ◌-◌, ◌<◌, ◌∷◌, ◌≡◌}
+use Rattle.wi_cli.specs.Lines.{Bytes}
 use Rattle.wi_cli.specs.Inner.Operands.{spelled_cell, spelled_rect, read_any, read_any_area}
-use Rattle.wi_cli.specs.Inner.Script.{csv_line, Block, lines_of, blocks, is_complete, block_command}
+use Rattle.wi_cli.specs.Inner.Script.{Block, asked, blocks, is_complete, block_command}
 use Rattle.wi_cli.specs.Spelled.{IsAddr, IsRect}
-use Rattle.wi_cli.specs.Script.{Asks}
 
 -- a word spells the cell, or the rectangle, that it was read as, and no other
 pub record SameAddr (word : Bytes) : Type 0 where
@@ -22,16 +18,8 @@ pub record SameRect (word : Bytes) : Type 0 where
 
 -- ---- lines
 
--- how many data lines a line asks for
-abbrev pub asked : Bytes → ℕ
-asked line = lines_of (csv_line (without_lf line))
-
 abbrev pub line_block : Bytes → List Bytes → Block
 line_block line taken = record { line = line; data_lines = taken; missing = asked line - length taken }
-
--- so many data lines stand behind a line; none where it asks for none
-abbrev pub Takes : Bytes → ℕ → Type 0
-Takes line n = Asks line n ⊎ ((n ≡ 0) × ((k : ℕ) → Asks line k → ⊥))
 
 -- the rules by which `AreCommands` takes data lines, for the blocks of lines
 pub data Splits : List Bytes → List Block → Type 0 where

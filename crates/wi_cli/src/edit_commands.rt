@@ -5,7 +5,7 @@ ghost use Rattle.wi_scenarios.specs.Commands.Command.{Unknown};
 ghost use Rattle.wi_cli.specs.Lines.{first_word, after_word};
 ghost use Rattle.wi_cli.specs.Inner.Script.{csv_operands, csv_named};
 ghost use Rattle.wi_cli.specs.Inner.Operands.{fill_of, IsRead, IsReading};
-ghost use Rattle.wi_cli.specs.Inner.Forms.{set_form, clear_form, fill_form, edit_forms, spelled, named_in};
+ghost use Rattle.wi_cli.specs.Inner.Forms.{SET, CLEAR, FILL, edits, spelled, named_in};
 ghost use Rattle.wi_cli.specs.Inner.Data.{IsAsked};
 
 use crate::command::Command;
@@ -19,7 +19,7 @@ use wi_values::{Address, AddressFault, Rect};
 /// `force`, before an edit.
 pub(crate) fn read_forced(text: &str) -> Line<'_>
     ensures { IsAsked (csv_named true (first_word text.now) (after_word text.now)) true
-        (Some (named_in (edit_forms true) (first_word text.now) (after_word text.now))) result }
+        (Some (named_in (edits true) (first_word text.now) (after_word text.now))) result }
 {
     let (name, operands) = split_word(text);
     read_edit(true, name, operands)
@@ -28,7 +28,7 @@ pub(crate) fn read_forced(text: &str) -> Line<'_>
 /// The edit of this name.
 pub(crate) fn read_edit<'a>(force: bool, name: &str, operands: &'a str) -> Line<'a>
     ensures { IsAsked (csv_named force name.now operands.now) true
-        (Some (named_in (edit_forms force) name.now operands.now)) result }
+        (Some (named_in (edits force) name.now operands.now)) result }
 {
     match name {
         "set" => Line::Command(read_set(force, operands)),
@@ -50,10 +50,10 @@ fn read_import(force: bool, operands: &str) -> Line<'_>
 }
 
 /// `set ADDR CONTENT`, where CONTENT is all after the one space that follows ADDR.
-#[tactic(auto, using(crate::proofs::Ties::Readings::set_so))]
+#[tactic(auto, using(crate::proofs::Ties::Readings::read_so))]
 #[inline(always)]
 pub(crate) fn read_set(force: bool, operands: &str) -> Result<Command<'_>, Refusal>
-    ensures { IsRead (spelled (set_form force) operands.now) result }
+    ensures { IsRead (spelled (SET force) operands.now) result }
 {
     let (address, content) = split_word(operands);
     if content.is_empty() {
@@ -64,18 +64,18 @@ pub(crate) fn read_set(force: bool, operands: &str) -> Result<Command<'_>, Refus
 }
 
 /// `clear RECT`.
-#[tactic(auto, using(crate::proofs::Ties::Readings::clear_so))]
+#[tactic(auto, using(crate::proofs::Ties::Readings::read_so))]
 fn read_clear(force: bool, operands: &str) -> Result<Command<'_>, Refusal>
-    ensures { IsRead (spelled (clear_form force) operands.now) result }
+    ensures { IsRead (spelled (CLEAR force) operands.now) result }
 {
     let area = Rect::read(only_word(operands)?.as_bytes())?;
     Ok(Command::Clear { force, area })
 }
 
 /// `fill ADDR RECT`.
-#[tactic(auto, using(crate::proofs::Ties::Readings::fill_so))]
+#[tactic(auto, using(crate::proofs::Ties::Readings::read_so))]
 fn read_fill(force: bool, operands: &str) -> Result<Command<'_>, Refusal>
-    ensures { IsRead (spelled (fill_form force) operands.now) result }
+    ensures { IsRead (spelled (FILL force) operands.now) result }
 {
     let (from, others) = split_word(operands);
     let area = only_word(others)?;

@@ -47,6 +47,7 @@ fn new_calculator(alloc: Global, keep: usize) -> Result<KeptCalculator, AllocErr
 }
 
 /// A new workbook, within the standard limits, that keeps so many values from one question to the next.
+#[tactic(auto, using(crate::proofs::ExitLemmas::is_new))]
 pub(crate) fn new_workbook(
     alloc: Global,
     keep: usize,

@@ -79,6 +79,7 @@ fn is_passed_over(text: &str) -> bool
 }
 
 /// What a text asks for.
+#[tactic(auto, using(crate::proofs::AskedLemmas::passed_asked, crate::proofs::AskedLemmas::kept_asked))]
 #[inline(always)]
 fn read_text(text: &str) -> Line<'_>
     ensures { IsAsked (csv_text text.now) true (text_command text.now) result }
@@ -103,6 +104,7 @@ fn read_bytes(bytes: &[u8]) -> Line<'_>
 }
 
 /// Without the CR at the end, if there is one.
+#[tactic(auto, using(crate::proofs::WordLemmas::cr_off, crate::proofs::WordLemmas::no_cr))]
 fn without_cr(line: &[u8]) -> &[u8]
     ensures { result.now ≡ without_cr line.now }
 {

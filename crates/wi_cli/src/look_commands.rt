@@ -5,7 +5,7 @@ ghost use Rattle.wi_values.specs.AddressReading.{read_rect};
 ghost use Rattle.wi_scenarios.specs.Commands.Command.{Compare};
 ghost use Rattle.wi_scenarios.specs.Commands.Operands.{corners};
 ghost use Rattle.wi_cli.specs.Inner.Operands.{of_name, of_operand, read_side, IsRead, IsReading};
-ghost use Rattle.wi_cli.specs.Inner.Forms.{show_form, export_form, changes_form, compare_form, formula_form, spelled};
+ghost use Rattle.wi_cli.specs.Inner.Forms.{SHOW, EXPORT, CHANGES, COMPARE, FORMULA, spelled};
 
 use crate::command::Command;
 use crate::names::read_side;
@@ -14,27 +14,27 @@ use wi_scenarios::Refusal;
 use wi_values::{Address, Rect};
 
 /// `show RECT`.
-#[tactic(auto, using(crate::proofs::Ties::Readings::show_so))]
+#[tactic(auto, using(crate::proofs::Ties::Readings::read_so))]
 pub(crate) fn read_show(operands: &str) -> Result<Command<'_>, Refusal>
-    ensures { IsRead (spelled show_form operands.now) result }
+    ensures { IsRead (spelled SHOW operands.now) result }
 {
     let area = Rect::read(only_word(operands)?.as_bytes())?;
     Ok(Command::Show { area })
 }
 
 /// `export RECT`.
-#[tactic(auto, using(crate::proofs::Ties::Readings::export_so))]
+#[tactic(auto, using(crate::proofs::Ties::Readings::read_so))]
 pub(crate) fn read_export(operands: &str) -> Result<Command<'_>, Refusal>
-    ensures { IsRead (spelled export_form operands.now) result }
+    ensures { IsRead (spelled EXPORT operands.now) result }
 {
     let area = Rect::read(only_word(operands)?.as_bytes())?;
     Ok(Command::Export { area })
 }
 
 /// `changes`.
-#[tactic(auto, using(crate::proofs::Ties::Readings::changes_so))]
+#[tactic(auto, using(crate::proofs::Ties::Readings::read_so))]
 pub(crate) fn read_changes(operands: &str) -> Result<Command<'_>, Refusal>
-    ensures { IsRead (spelled changes_form operands.now) result }
+    ensures { IsRead (spelled CHANGES operands.now) result }
 {
     if !is_all_spaces(operands.as_bytes()) {
         return Err(Refusal::BadCommand);
@@ -43,9 +43,9 @@ pub(crate) fn read_changes(operands: &str) -> Result<Command<'_>, Refusal>
 }
 
 /// `compare S T RECT`, where S and T are names of scenarios, or `-`.
-#[tactic(auto, using(crate::proofs::Ties::Readings::compare_so))]
+#[tactic(auto, using(crate::proofs::Ties::Readings::read_so))]
 pub(crate) fn read_compare(operands: &str) -> Result<Command<'_>, Refusal>
-    ensures { IsRead (spelled compare_form operands.now) result }
+    ensures { IsRead (spelled COMPARE operands.now) result }
 {
     let (first, others) = split_word(operands);
     let (second, others) = split_word(others);
@@ -69,9 +69,9 @@ fn compare_of<'a>(first: &'a str, second: &'a str, area: &str) -> Result<Command
 }
 
 /// `formula ADDR`.
-#[tactic(auto, using(crate::proofs::Ties::Readings::formula_so))]
+#[tactic(auto, using(crate::proofs::Ties::Readings::read_so))]
 pub(crate) fn read_formula(operands: &str) -> Result<Command<'_>, Refusal>
-    ensures { IsRead (spelled formula_form operands.now) result }
+    ensures { IsRead (spelled FORMULA operands.now) result }
 {
     let at = Address::read(only_word(operands)?.as_bytes())?;
     Ok(Command::Formula { at })

@@ -1,6 +1,6 @@
 //! The commands of scenarios and sessions, as they are read.
 
-ghost use Rattle.wi_cli.specs.Inner.Forms.{scenario_form, drop_form, base_form, use_form, as_form, spelled};
+ghost use Rattle.wi_cli.specs.Inner.Forms.{SCENARIO, DROP, BASE, USE, AS, spelled};
 ghost use Rattle.wi_cli.specs.Inner.Operands.{IsRead};
 
 use crate::command::Command;
@@ -10,9 +10,9 @@ use wi_scenarios::Refusal;
 use wi_values::Address;
 
 /// `scenario NAME ADDR CONTENT`, where CONTENT is all after the one space that follows ADDR, and may be empty.
-#[tactic(auto, using(crate::proofs::Ties::Readings::scenario_so))]
+#[tactic(auto, using(crate::proofs::Ties::Readings::read_so))]
 pub(crate) fn read_scenario(operands: &str) -> Result<Command<'_>, Refusal>
-    ensures { IsRead (spelled scenario_form operands.now) result }
+    ensures { IsRead (spelled SCENARIO operands.now) result }
 {
     let (word, others) = split_word(operands);
     let (address, content) = split_word(others);
@@ -22,18 +22,18 @@ pub(crate) fn read_scenario(operands: &str) -> Result<Command<'_>, Refusal>
 }
 
 /// `drop NAME`.
-#[tactic(auto, using(crate::proofs::Ties::Readings::drop_so))]
+#[tactic(auto, using(crate::proofs::Ties::Readings::read_so))]
 pub(crate) fn read_drop(operands: &str) -> Result<Command<'_>, Refusal>
-    ensures { IsRead (spelled drop_form operands.now) result }
+    ensures { IsRead (spelled DROP operands.now) result }
 {
     let name = only_name(operands)?;
     Ok(Command::Drop { name })
 }
 
 /// `base NAME OTHER`, and `base NAME`.
-#[tactic(auto, using(crate::proofs::Ties::Readings::base_so))]
+#[tactic(auto, using(crate::proofs::Ties::Readings::read_so))]
 pub(crate) fn read_base(operands: &str) -> Result<Command<'_>, Refusal>
-    ensures { IsRead (spelled base_form operands.now) result }
+    ensures { IsRead (spelled BASE operands.now) result }
 {
     let (word, others) = split_word(operands);
     let name = read_name(word)?;
@@ -42,18 +42,18 @@ pub(crate) fn read_base(operands: &str) -> Result<Command<'_>, Refusal>
 }
 
 /// `use NAME`, and `use`.
-#[tactic(auto, using(crate::proofs::Ties::Readings::use_so))]
+#[tactic(auto, using(crate::proofs::Ties::Readings::read_so))]
 pub(crate) fn read_use(operands: &str) -> Result<Command<'_>, Refusal>
-    ensures { IsRead (spelled use_form operands.now) result }
+    ensures { IsRead (spelled USE operands.now) result }
 {
     let name = name_or_none(operands)?;
     Ok(Command::Use { name })
 }
 
 /// `as SESSION`.
-#[tactic(auto, using(crate::proofs::Ties::Readings::as_so))]
+#[tactic(auto, using(crate::proofs::Ties::Readings::read_so))]
 pub(crate) fn read_as(operands: &str) -> Result<Command<'_>, Refusal>
-    ensures { IsRead (spelled as_form operands.now) result }
+    ensures { IsRead (spelled AS operands.now) result }
 {
     let name = only_name(operands)?;
     Ok(Command::As { name })

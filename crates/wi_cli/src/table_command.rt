@@ -1,7 +1,7 @@
 //! The command `table`, as it is read.
 
 ghost use Rattle.wi_cli.specs.Inner.Operands.{table_of_one, table_of_two, table_behind, IsRead, IsReading};
-ghost use Rattle.wi_cli.specs.Inner.Forms.{table_form, spelled};
+ghost use Rattle.wi_cli.specs.Inner.Forms.{TABLE, spelled};
 
 use crate::command::Command;
 use crate::operands::{line_fault, worse};
@@ -14,9 +14,9 @@ type OneCell = Result<Address, AddressFault>;
 type CellRange = Result<Rect, AddressFault>;
 
 /// `table F R XCOLUMN` and `table F R XCOLUMN C YROW`.
-#[tactic(auto, using(crate::proofs::Ties::Readings::table_so))]
+#[tactic(auto, using(crate::proofs::Ties::Readings::read_so))]
 pub(crate) fn read_table(operands: &str) -> Result<Command<'_>, Refusal>
-    ensures { IsRead (spelled table_form operands.now) result }
+    ensures { IsRead (spelled TABLE operands.now) result }
 {
     let (formula_cell, others) = split_word(operands);
     let (input, others) = split_word(others);

@@ -25,6 +25,7 @@ fn word_len(bytes: &[u8]) -> usize
 }
 
 /// The bytes without the spaces that they begin with.
+#[tactic(auto, using(crate::proofs::WordLemmas::spaces_off))]
 fn skip_spaces(bytes: &[u8]) -> &[u8]
     ensures { result.now ≡ skip_spaces bytes.now }
 {

@@ -1,10 +1,9 @@
 -- Lines have the commands that they are read as.
-use Rattle.wi_cli.proofs.Vocabulary.{◌≡◌, ℕ, ◌+◌, ◌-◌, Bool, true, false, ◌==◌, List, [], ◌∷◌, ◌++◌, length, refl, sym, subst, arith, nat_tests, Block, blocks_from, blocks, begun, Bytes, Splits, none, a_line, cut_short, asked, line_block, length-append, append-nil, append_assoc, suc, zero, ◌<◌, not, ◌||◌, nat_lt, cond, take, filter, filter_map, Option, Some, None, ◌⊎◌, inl, inr, if◌then◌else◌, ap, ap₂, ◌∙◌, list_all, cons_option, byte, is_utf8, IsUtf8-from_is_utf8, is_utf8-from_IsUtf8, or_parts, not-false, ltb-false, le-ltb, both_ways, nil_from_length, or-true, or-false, raw_lines, onto_first, without_lf, is_whole, max_line, is_space, is_all_spaces, CsvLine, csv_line, lines_of, is_complete, is_comment, text_command, line_command, command_with, block_command, spelled_command, whole_lines, Cell, IsWritten, Command, Csv, Unknown, Unreadable, form, line_text, IsWithin, IsGood, Asks, is_passed_over, IsCommand, spelled_cell, blocks_that_count, commands_of, AreCommands, option_to_list, State, max_lines, all_commands, complete_commands, limited, Writes}
+use Rattle.wi_cli.proofs.Vocabulary.{◌≡◌, ℕ, ◌+◌, ◌-◌, Bool, true, false, ◌==◌, List, [], ◌∷◌, ◌++◌, length, refl, sym, subst, arith, nat_tests, Block, blocks_from, blocks, begun, Bytes, Splits, none, a_line, cut_short, asked, line_block, length-append, append-nil, append_assoc, ◌<◌, not, ◌||◌, nat_lt, cond, filter, filter_map, Option, Some, None, if◌then◌else◌, ap, ap₂, ◌∙◌, list_all, cons_option, byte, is_utf8, IsUtf8-from_is_utf8, is_utf8-from_IsUtf8, or_parts, not-false, ltb-false, le-ltb, both_ways, nil_from_length, or-true, or-false, without_lf, max_line, is_space, is_all_spaces, CsvLine, csv_line, lines_of, is_complete, is_comment, text_command, line_command, command_with, block_command, spelled_command, Cell, IsWritten, Command, Csv, Unknown, Unreadable, form, line_text, IsWithin, IsGood, is_passed_over, IsCommand, spelled_cell, blocks_that_count, commands_of, AreCommands, option_to_list, without_cr}
 use Rattle.wi_cli.specs.Script.{none as no_commands, a_line as line_with, cut_short as line_cut}
-use Rattle.wi_cli.specs.Laws.{Takes}
 use Rattle.wi_cli.proofs.Ties.Texts.{IsCsvLine, AsksOrNot, it_asks, it_asks_none, asks_or_not, it_is_read, no_asks, takes, asks, is_plain, said, Reads, spells, spells_none, reads}
 
-same_block : (line : Bytes) (taken : List Bytes) (m : ℕ) → m ≡ asked line - length taken → ◌≡◌ {A = Block} (record { line = line; data_lines = taken; missing = m }) (line_block line taken)
+pub same_block : (line : Bytes) (taken : List Bytes) (m : ℕ) → m ≡ asked line - length taken → ◌≡◌ {A = Block} (record { line = line; data_lines = taken; missing = m }) (line_block line taken)
 same_block line taken m e = cc
 
 -- at the end of the lines
@@ -57,10 +56,10 @@ text_is text b e = ap (λ (v : Bool). if v then None else Some (spelled_command 
 
 -- ---- a line
 
-pub line_is : (line : Bytes) (b : Bool) → (nat_lt max_line (length (without_lf line)) || not (is_utf8 (line_text line))) ≡ b
-    → line_command (without_lf line) ≡ (if b then Some (Unreadable) else text_command (line_text line))
+pub line_by : (content : Bytes) (b : Bool) → (nat_lt max_line (length content) || not (is_utf8 (without_cr content))) ≡ b
+    → line_command content ≡ (if b then Some Unreadable else text_command (without_cr content))
 unfolding line_command
-line_is line b e = ap (λ (v : Bool). if v then Some (Unreadable) else text_command (line_text line)) e
+line_by content b e = ap (λ (v : Bool). if v then Some Unreadable else text_command (without_cr content)) e
 
 pub good : (line : Bytes) → (nat_lt max_line (length (without_lf line)) || not (is_utf8 (line_text line))) ≡ false → IsGood line
 good line e = (ltb-false _ _ (or_parts _ _ e).0, IsUtf8-from_is_utf8 (line_text line) (not-false _ (or_parts _ _ e).1))
@@ -117,9 +116,9 @@ module _ (line : Bytes) (taken : List Bytes) where
     text_has g p e (spells_none unread) = is_so (Some Unknown) (g, p, no_form g p unread) (e ∙ ap (λ (x : Command). Some x) unread)
 
     by_line : (b : Bool) → (nat_lt max_line (length (without_lf line)) || not (is_utf8 (line_text line))) ≡ b → (p : Bool) → is_passed_over (line_text line) ≡ p → HasCommand
-    by_line true e p f = is_so (Some Unreadable) (λ h. both_ways _ (good_is line h) e) (plain_line line taken plain ∙ line_is line true e)
-    by_line false e true f = is_so None (good line e, f) (plain_line line taken plain ∙ line_is line false e ∙ text_is (line_text line) true f)
-    by_line false e false f = text_has (good line e) f (plain_line line taken plain ∙ line_is line false e ∙ text_is (line_text line) false f) (reads (line_text line))
+    by_line true e p f = is_so (Some Unreadable) (λ h. both_ways _ (good_is line h) e) (plain_line line taken plain ∙ line_by (without_lf line) true e)
+    by_line false e true f = is_so None (good line e, f) (plain_line line taken plain ∙ line_by (without_lf line) false e ∙ text_is (line_text line) true f)
+    by_line false e false f = text_has (good line e) f (plain_line line taken plain ∙ line_by (without_lf line) false e ∙ text_is (line_text line) false f) (reads (line_text line))
 
   has_command : (csv_line (without_lf line) ≡ None → taken ≡ []) → HasCommand
   has_command fits = by (asks_or_not line)
@@ -137,10 +136,6 @@ onto (Some c) cs = refl
 pub alone : (o : Option Command) → cons_option o [] ≡ option_to_list o
 alone None = refl
 alone (Some c) = refl
-
-taken_is : (line : Bytes) (taken : List Bytes) → Takes line (length taken) → Asks line (length taken) ⊎ ((taken ≡ []) × ((n : ℕ) → Asks line n → ⊥))
-taken_is line taken (inl h) = inl h
-taken_is line taken (inr h) = inr (nil_from_length taken h.0, h.1)
 
 none_taken : (line : Bytes) (taken : List Bytes) → asked line ≡ length taken → csv_line (without_lf line) ≡ None → taken ≡ []
 none_taken line taken e plain = nil_from_length taken (sym e ∙ ap (λ (x : Option CsvLine). lines_of x) plain)
@@ -167,12 +162,10 @@ has_blocks : (ended : Bool) (lines : List Bytes) (bs : List Block) → Splits li
 has_blocks true lines bs none = no_commands
 has_blocks false lines bs none = no_commands
 has_blocks ended lines bs (a_line line taken more cs same rest) =
-    let o : Option Command = block_command (line_block line taken) in
-    let some : Takes line (length taken) = subst (λ (n : ℕ). Takes line n) same (takes line) in
     let as_list : commands_in ended (line_block line taken ∷ cs) ≡ option_to_list (block_command (line_block line taken)) ++ commands_in ended cs =
     ap (filter_map block_command) (kept_one ended (line_block line taken) cs (complete line taken same)) ∙ onto (block_command (line_block line taken)) (commands_in ended cs) in
     subst (λ (ds : List Command). AreCommands ended (line ∷ taken ++ more) ds) (sym as_list)
-    (line_with line taken more (block_command (line_block line taken)) (commands_in ended cs) (taken_is line taken some) (has_command line taken (none_taken line taken same)) (has_blocks ended more cs rest))
+    (line_with line taken more (block_command (line_block line taken)) (commands_in ended cs) (takes line taken same) (has_command line taken (none_taken line taken same)) (has_blocks ended more cs rest))
 has_blocks true lines bs (cut_short line taken short) =
     subst (λ (ds : List Command). AreCommands true (line ∷ taken) ds) (sym (alone (block_command (line_block line taken))))
     (line_cut line taken (asked line) (block_command (line_block line taken)) (asks line (length taken) short) short (has_command line taken (none_short line taken short)))
@@ -180,90 +173,10 @@ has_blocks false lines bs (cut_short line taken short) =
     subst (λ (ds : List Command). AreCommands false (line ∷ taken) ds) (sym (ap (λ (b : Bool). filter_map block_command (cond b (line_block line taken ∷ []) [])) (not_complete line taken short)))
     (line_cut line taken (asked line) (block_command (line_block line taken)) (asks line (length taken) short) short (has_command line taken (none_short line taken short)))
 
--- ---- of the lines of bytes only the last may lack its LF
-
-abbrev AreWhole : List Bytes → Type 0
-AreWhole [] = Unit {0}
-AreWhole (l ∷ []) = Unit {0}
-AreWhole (l ∷ m ∷ ls) = (is_whole l ≡ true) × AreWhole (m ∷ ls)
-
-onto_whole : (b : ℕ) (ls : List Bytes) → AreWhole ls → AreWhole (onto_first b ls)
-onto_whole b [] h = tt
-onto_whole b (l ∷ []) h = tt
-onto_whole b (l ∷ m ∷ ls) h = (by (b == byte "\n"), h.1)
-  where
-    by : (v : Bool) → (if v then true else is_whole l) ≡ true
-    by true = refl
-    by false = h.0
-
-lf_whole : (ls : List Bytes) → AreWhole ls → AreWhole ((10 ∷ []) ∷ ls)
-lf_whole [] h = tt
-lf_whole (l ∷ ls) h = (refl, h)
-
-raw_whole : (bytes : Bytes) → AreWhole (raw_lines bytes)
-raw_whole [] = tt
-raw_whole (b ∷ bs) = by (b == byte "\n") (raw_whole bs)
-  where
-    by : (v : Bool) → AreWhole (raw_lines bs) → AreWhole (if v then (10 ∷ []) ∷ raw_lines bs else onto_first b (raw_lines bs))
-    by true h = lf_whole (raw_lines bs) h
-    by false h = onto_whole b (raw_lines bs) h
-
-take_whole : (n : ℕ) (ls : List Bytes) → AreWhole ls → AreWhole (take n ls)
-take_whole zero ls h = tt
-take_whole (suc n) [] h = tt
-take_whole (suc zero) (l ∷ ls) h = tt
-take_whole (suc (suc n)) (l ∷ []) h = tt
-take_whole (suc (suc n)) (l ∷ m ∷ ls) h = (h.0, take_whole (suc n) (m ∷ ls) h.1)
-
-whole_is : (ls : List Bytes) → AreWhole ls → whole_lines ls ≡ filter is_whole ls
-whole_is [] h = refl
-whole_is (l ∷ []) h = refl
-whole_is (l ∷ m ∷ ls) h =
-    ap (λ (b : Bool). cond b (l ∷ whole_lines (m ∷ ls)) []) h.0 ∙ ap (λ (x : List Bytes). l ∷ x) (whole_is (m ∷ ls) h.1)
-    ∙ ap (λ (b : Bool). cond b (l ∷ filter is_whole (m ∷ ls)) (filter is_whole (m ∷ ls))) (sym h.0)
-
--- but before the last all have it
-front_whole : (n : ℕ) (ls : List Bytes) → AreWhole ls → n < length ls → whole_lines (take n ls) ≡ take n ls
-front_whole zero ls h l = refl
-front_whole (suc n) [] h l = absurd (omega (arith, l))
-front_whole (suc n) (x ∷ []) h l = absurd (omega (arith, l))
-front_whole (suc n) (x ∷ y ∷ ls) h l =
-    ap (λ (b : Bool). cond b (x ∷ whole_lines (take n (y ∷ ls))) []) h.0 ∙ ap (λ (z : List Bytes). x ∷ z) (front_whole n (y ∷ ls) h.1 (omega (arith, l)))
-
--- ---- the commands of a script
+-- ---- the commands of lines
 
 pub has_commands : (ended : Bool) (lines : List Bytes) → AreCommands ended lines (commands_of ended lines)
 has_commands ended lines = has_blocks ended lines (blocks lines) (blocks_split lines)
 
--- ---- the commands of a script, as the outcome of a run tells them
-
-abbrev pub Answered : Bool → Bool → List Bytes → State → Bytes → State → Type 0
-Answered ended fails lines s out t = (cs : List Command) × AreCommands ended lines cs × Writes fails s cs out t
-
--- ---- the commands of a script
-
-pub all_is : (input : Bytes) → all_commands input ≡ commands_of true (raw_lines input)
-unfolding all_commands
-all_is input = refl
-
-complete_is : (ls lines : List Bytes) → whole_lines ls ≡ lines → complete_commands ls ≡ commands_of false lines
-unfolding complete_commands
-complete_is ls lines e = ap (commands_of false) e
-
-limited_is : (input : Bytes) → limited (raw_lines input) ≡ take max_lines (raw_lines input)
-unfolding limited
-limited_is input = refl
-
-pub read_is : (input : Bytes) → complete_commands (raw_lines input) ≡ commands_of false (filter is_whole (raw_lines input))
-read_is input = complete_is (raw_lines input) (filter is_whole (raw_lines input)) (whole_is (raw_lines input) (raw_whole input))
-
-pub many_is : (input : Bytes) → max_lines < length (raw_lines input) → complete_commands (limited (raw_lines input)) ≡ commands_of false (take max_lines (raw_lines input))
-many_is input h = ap complete_commands (limited_is input) ∙ complete_is (take max_lines (raw_lines input)) (take max_lines (raw_lines input)) (front_whole max_lines (raw_lines input) (raw_whole input) h)
-
-pub cut_is : (input : Bytes) → complete_commands (limited (raw_lines input)) ≡ commands_of false (filter is_whole (take max_lines (raw_lines input)))
-cut_is input = ap complete_commands (limited_is input) ∙ complete_is (take max_lines (raw_lines input)) (filter is_whole (take max_lines (raw_lines input))) (whole_is (take max_lines (raw_lines input)) (take_whole max_lines (raw_lines input) (raw_whole input)))
-
--- ---- what they write
-
-pub answered : (ended fails : Bool) (lines : List Bytes) (cs : List Command) (same : cs ≡ commands_of ended lines) (s : State) (out : Bytes) (t : State) → Writes fails s cs out t → Answered ended fails lines s out t
-answered ended fails lines cs same s out t w = (cs, subst (λ (ds : List Command). AreCommands ended lines ds) (sym same) (has_commands ended lines), w)
+pub are_commands : (ended : Bool) (lines : List Bytes) (cs : List Command) → commands_of ended lines ≡ cs → AreCommands ended lines cs
+are_commands ended lines cs same = subst (AreCommands ended lines) same (has_commands ended lines)

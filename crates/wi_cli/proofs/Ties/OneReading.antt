@@ -1,23 +1,19 @@
 -- Lines have no other commands than those that they are read as.
-use Rattle.wi_cli.proofs.Vocabulary.{◌≡◌, ℕ, ◌-◌, ◌<◌, Bool, true, false, not, ◌==◌, ◌||◌, nat_lt, cond, List, [], ◌∷◌, ◌++◌, length, filter, filter_map, ◌⊎◌, inl, inr, Option, Some, None, if◌then◌else◌, refl, sym, ap, ap₂, ◌∙◌, subst, arith, codes, append_assoc, append-nil, cons_option, is_utf8, nat_tests, IsUtf8-from_is_utf8, is_utf8-from_IsUtf8, le-ltb, both_ways, without_lf, max_line, Bytes, csv_text, Block, lines_of, blocks, blocks_from, is_complete, block_command, spelled_command, Cell, IsWritten, Command, Csv, Unknown, Unreadable, form, line_text, IsGood, Asks, is_passed_over, IsCommand, asked, line_block, blocks_that_count, commands_of, AreCommands}
+use Rattle.wi_cli.proofs.Vocabulary.{◌≡◌, ℕ, ◌-◌, ◌<◌, Bool, true, false, not, ◌||◌, nat_lt, cond, List, [], ◌∷◌, ◌++◌, length, filter, filter_map, inl, inr, Option, Some, None, if◌then◌else◌, refl, sym, ap, ap₂, ◌∙◌, subst, arith, codes, cons_option, is_utf8, IsUtf8-from_is_utf8, is_utf8-from_IsUtf8, le-ltb, both_ways, without_lf, max_line, Bytes, csv_text, Block, lines_of, blocks, is_complete, block_command, spelled_command, Cell, IsWritten, Command, Csv, Unknown, Unreadable, form, line_text, IsGood, is_passed_over, IsCommand, asked, line_block, blocks_that_count, commands_of, AreCommands}
 use Rattle.wi_cli.specs.Script.{none as no_commands, a_line as line_with, cut_short as line_cut}
-use Rattle.wi_cli.specs.Laws.{Takes}
-use Rattle.wi_cli.proofs.Ties.Texts.{AsksOrNot, it_asks, it_asks_none, asks_or_not, asked_is, short_line, it_is_read, TextReads, text_or, is_plain, said, not_passed, Reads, spells, spells_none, reads}
-use Rattle.wi_cli.proofs.Ties.LinesRead.{plain_line, csv_line_is, line_is, text_is, good, good_is, onto, alone, complete, not_complete, kept_one}
+use Rattle.wi_cli.proofs.LineLemmas.{whole_block, one_block}
+use Rattle.wi_cli.proofs.Ties.Texts.{Takes, AsksOrNot, it_asks, it_asks_none, asks_or_not, asked_is, csv_line_by, it_is_read, TextReads, text_or, is_plain, said, not_passed, Reads, spells, spells_none, reads}
+use Rattle.wi_cli.proofs.Ties.LinesRead.{same_block, plain_line, csv_line_is, line_by, text_is, good, good_is, onto, alone, complete, not_complete, kept_one}
 
 -- ---- how many data lines
 
-pub is_asked : (line : Bytes) (n : ℕ) → Takes line n → asked line ≡ n
-is_asked line n (inl h) = asked_is line n h
-is_asked line n (inr h) = by (asks_or_not line)
+is_asked : (line : Bytes) (taken : List Bytes) → Takes line taken → asked line ≡ length taken
+is_asked line taken (inl h) = asked_is line (length taken) h
+is_asked line taken (inr h) = by (asks_or_not line)
   where
-    by : AsksOrNot line → asked line ≡ n
+    by : AsksOrNot line → asked line ≡ length taken
     by (it_asks force o m within w) = absurd (h.1 m (within, (force, o, w)))
-    by (it_asks_none e) = ap lines_of e ∙ sym h.0
-
-are_taken : (line : Bytes) (taken : List Bytes) → Asks line (length taken) ⊎ ((taken ≡ []) × ((n : ℕ) → Asks line n → ⊥)) → Takes line (length taken)
-are_taken line taken (inl h) = inl h
-are_taken line taken (inr h) = inr (ap (λ (ls : List Bytes). length ls) h.0, h.1)
+    by (it_asks_none e) = ap lines_of e ∙ sym (ap (λ (ls : List Bytes). length ls) h.0)
 
 -- ---- a line with its data lines
 
@@ -31,7 +27,7 @@ module _ (line : Bytes) (taken : List Bytes) where
 
   -- one that asks for none, by whether it is passed over
   plain_is : IsGood line → csv_text (line_text line) ≡ None → (p : Bool) → is_passed_over (line_text line) ≡ p → read ≡ (if p then None else Some (spelled_command (line_text line)))
-  plain_is g e p f = plain_line line taken (short_line line (le-ltb _ _ g.0) ∙ e) ∙ line_is line false (good_is line g) ∙ text_is (line_text line) p f
+  plain_is g e p f = plain_line line taken (csv_line_by (without_lf line) false (le-ltb _ _ g.0) ∙ e) ∙ line_by (without_lf line) false (good_is line g) ∙ text_is (line_text line) p f
 
   is_none : IsGood line → is_passed_over (line_text line) ≡ true → TextReads (line_text line) → read ≡ None
   is_none g p (inl f) = absurd (both_ways _ (csv_apart (line_text line) f.0 f.1 f.2 f.3) p)
@@ -51,7 +47,7 @@ module _ (line : Bytes) (taken : List Bytes) where
   is_unreadable bad (it_asks_none e) = by (nat_lt max_line (length (without_lf line)) || not (is_utf8 (line_text line))) refl
     where
       by : (b : Bool) → (nat_lt max_line (length (without_lf line)) || not (is_utf8 (line_text line))) ≡ b → read ≡ Some Unreadable
-      by true f = plain_line line taken e ∙ line_is line true f
+      by true f = plain_line line taken e ∙ line_by (without_lf line) true f
       by false f = absurd (bad (good line f))
 
   is_csv : (force : Bool) (o : Option Cell) (n : ℕ) (lines : List Bytes) → IsGood line → IsWritten (line_text line) (form (Csv force o n [])) → lines ≡ taken → read ≡ Some (Csv force o n lines)
@@ -73,40 +69,12 @@ module _ (line : Bytes) (taken : List Bytes) where
 
 -- ---- blocks
 
-same_blocks : (line : Bytes) (xs ys : List Bytes) (m n : ℕ) → xs ≡ ys → m ≡ n → ◌≡◌ {A = Block} (record { line = line; data_lines = xs; missing = m }) (record { line = line; data_lines = ys; missing = n })
-same_blocks line xs ys m n e f = cc
-
-filled : (line : Bytes) (before taken lines : List Bytes) (m : ℕ) → m ≡ length taken
-    → blocks_from (record { line = line; data_lines = before; missing = m }) (taken ++ lines) ≡ record { line = line; data_lines = before ++ taken; missing = 0 } ∷ blocks lines
-filled line before [] [] m e = ap (λ (b : Block). b ∷ []) (same_blocks line before (before ++ []) m 0 (sym (append-nil before)) e)
-filled line before [] (l ∷ ls) m e =
-    let whole : (m == 0) ≡ true = grind (arith, nat_tests) in
-    ap (λ (v : Bool). if v then record { line = line; data_lines = before; missing = m } ∷ blocks (l ∷ ls) else blocks_from (record { line = line; data_lines = before ++ l ∷ []; missing = m - 1 }) ls) whole
-    ∙ ap (λ (b : Block). b ∷ blocks (l ∷ ls)) (same_blocks line before (before ++ []) m 0 (sym (append-nil before)) e)
-filled line before (t ∷ ts) lines m e =
-    let some : (m == 0) ≡ false = grind (arith, nat_tests) in
-    let less : m - 1 ≡ length ts = omega (arith, e) in
-    ap (λ (v : Bool). if v then record { line = line; data_lines = before; missing = m } ∷ blocks (t ∷ (ts ++ lines)) else blocks_from (record { line = line; data_lines = before ++ t ∷ []; missing = m - 1 }) (ts ++ lines)) some
-    ∙ filled line (before ++ t ∷ []) ts lines (m - 1) less
-    ∙ ap (λ (xs : List Bytes). record { line = line; data_lines = xs; missing = 0 } ∷ blocks lines) (append_assoc before (t ∷ []) ts)
-
-short_of : (line : Bytes) (before taken : List Bytes) (m : ℕ) → length taken < m
-    → blocks_from (record { line = line; data_lines = before; missing = m }) taken ≡ record { line = line; data_lines = before ++ taken; missing = m - length taken } ∷ []
-short_of line before [] m h = ap (λ (b : Block). b ∷ []) (same_blocks line before (before ++ []) m (m - 0) (sym (append-nil before)) (omega arith))
-short_of line before (t ∷ ts) m h =
-    let some : (m == 0) ≡ false = grind (arith, nat_tests) in
-    let less : length ts < m - 1 = omega (arith, h) in
-    let same : (m - 1) - length ts ≡ m - length (t ∷ ts) = omega arith in
-    ap (λ (v : Bool). if v then record { line = line; data_lines = before; missing = m } ∷ blocks (t ∷ ts) else blocks_from (record { line = line; data_lines = before ++ t ∷ []; missing = m - 1 }) ts) some
-    ∙ short_of line (before ++ t ∷ []) ts (m - 1) less
-    ∙ ap (λ (b : Block). b ∷ []) (same_blocks line ((before ++ t ∷ []) ++ ts) (before ++ t ∷ ts) ((m - 1) - length ts) (m - length (t ∷ ts)) (append_assoc before (t ∷ []) ts) same)
-
 block_filled : (line : Bytes) (taken lines : List Bytes) → asked line ≡ length taken → blocks (line ∷ (taken ++ lines)) ≡ line_block line taken ∷ blocks lines
 block_filled line taken lines e =
-    filled line [] taken lines (asked line) e ∙ ap (λ (b : Block). b ∷ blocks lines) (same_blocks line taken taken 0 (asked line - length taken) refl (omega (arith, e)))
+    (whole_block line taken (omega (arith, e))).first lines ∙ ap (λ (b : Block). b ∷ blocks lines) (same_block line taken 0 (omega (arith, e)))
 
 block_short : (line : Bytes) (taken : List Bytes) → length taken < asked line → blocks (line ∷ taken) ≡ line_block line taken ∷ []
-block_short line taken h = short_of line [] taken (asked line) h
+block_short line taken h = one_block line taken (asked line - length taken) (omega (arith, h))
 
 -- ---- lines
 
@@ -114,7 +82,7 @@ pub same_commands : (ended : Bool) (lines : List Bytes) (cs : List Command) → 
 same_commands true lines cs no_commands = refl
 same_commands false lines cs no_commands = refl
 same_commands ended lines cs (line_with line taken more o ds takes is rest) =
-    let many : asked line ≡ length taken = is_asked line (length taken) (are_taken line taken takes) in
+    let many : asked line ≡ length taken = is_asked line taken takes in
     ap (λ (bs : List Block). filter_map block_command (blocks_that_count ended bs)) (block_filled line taken more many)
     ∙ ap (filter_map block_command) (kept_one ended (line_block line taken) (blocks more) (complete line taken many))
     ∙ ap₂ cons_option (one_command line taken o is) (same_commands ended more ds rest) ∙ onto o ds

@@ -1,5 +1,6 @@
 -- Cells and rectangles as they are read, and the commands that have them.
-use Rattle.wi_cli.proofs.Vocabulary.{◌≡◌, ◌<◌, ℕ, false, Result, ap₂, arith, nat_tests, ◌||◌, Area, AddressFault, columns, row_of_place, column_of_place, Cell, CornerCells, is_outside, address, area, read_by, Bool, cell, ◌*◌, min, max, true, not, ◌&&◌, ◌==◌, nat_lt, List, [], ◌∷◌, Option, Some, None, if◌then◌else◌, refl, sym, ap, ◌∙◌, subst, list_any, result_err, or_parts, both_ways, or-false, row_of, column_of, size_of, Shape, State, max_area, is_column, is_row, of_operand, worse, line_fault, unless_refused, table_of_one, table_of_two, lies_outside, form, Table, Answer, Ok, ◌++◌, or-true, Reading, IsReadAs, IsStep, placed, second_input, cells_asked, has_row, entries, IsTablePlaced, placed_again, spanned_again, is_misshaped, addresses, table_step, table_by, no_other, Bytes, lacks, Clear, Command, Compare, Export, Fill, Formula, Scenario, Set, Show, cleared, clear_outside, clear_step, clear_of, fill_edit, leaves, filled_by, fill_outside, fill_step, area_answer, shown_in, show_step, show_of, exported_in, export_step, export_of_area, compared_in, compare_step, compare_of}
+use Rattle.wi_cli.proofs.Vocabulary.{◌≡◌, ◌<◌, ℕ, false, Result, ap₂, arith, nat_tests, ◌||◌, Area, AddressFault, columns, row_of_place, column_of_place, Cell, CornerCells, is_outside, address, area, read_by, Bool, cell, ◌*◌, min, max, true, not, ◌&&◌, ◌==◌, nat_lt, List, [], ◌∷◌, Option, Some, None, if◌then◌else◌, refl, sym, ap, ◌∙◌, subst, list_any, result_err, or_parts, both_ways, or-false, row_of, column_of, size_of, Shape, State, max_area, is_column, is_row, of_operand, worse, line_fault, unless_refused, table_of_one, table_of_two, lies_outside, form, Answer, Ok, ◌++◌, or-true, Reading, IsReadAs, IsStep, placed, second_input, cells_asked, has_row, entries, IsTablePlaced, placed_again, spanned_again, is_misshaped, addresses, table_step, table_by, no_other, Bytes, lacks, Command, cleared, clear_outside, clear_step, clear_of, fill_edit, leaves, filled_by, fill_outside, fill_step, area_answer, shown_in, show_step, show_of, exported_in, export_step, export_of_area, compared_in, compare_step, compare_of}
+use Rattle.wi_scenarios.specs.Commands.Command.{Set, Clear, Fill, Scenario, Show, Export, Compare, Table, Formula}
 use Rattle.wi_values.specs.declared.address.AddressFault.TheVariants.{Outside as AtOutside}
 use Rattle.wi_scenarios.specs.Commands.Operands.{corners}
 use Rattle.wi_scenarios.proofs.FillSteps.{fill_of}

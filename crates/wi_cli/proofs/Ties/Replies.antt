@@ -1,28 +1,13 @@
 -- Codes and replies, by the step of a command, and what a run has written.
-use Rattle.wi_cli.proofs.Vocabulary.{◌≡◌, List, [], ◌∷◌, inl, inr, codes, refl, sym, ap, ap₂, ◌∙◌, Contains, State, Bytes, Command, Cause, BadLine, BadCommand, CutShort, Outside, TooLarge, NoScenario, InUse, TooMany, BadField, TooLong, OutOfSheet, NumberRange, TooDeep, Syntax, LeavesSheet, Stale, Loop, Full, EditLimit, order, IsFirst, late, causes, IsFirstOf, false, true, Ok, Err, subst, arith, both_ways, Refusal, may_grow, MayGrow, Holds, Answer, Tells, IsStep, Bool, list_any, KeepsMemory, MayLackMemory, lies_outside, As, Csv, Drop, has_session, form, first_holds, one_first, ◌++◌, ℕ, Option, Some, None, subst₂, refused as refused_line, stale_cell, cell_named, Replies, accepted, unserved, RefusedAs, refusal_for, false≢true, left_by, reply, Writes, MayHappen, AreEvents}
+use Rattle.wi_cli.proofs.Vocabulary.{◌≡◌, List, [], ◌∷◌, inl, inr, codes, refl, sym, ap, ap₂, ◌∙◌, Contains, State, Bytes, Command, Cause, CutShort, Outside, BadField, OutOfSheet, NumberRange, TooDeep, Syntax, LeavesSheet, Stale, Full, EditLimit, order, IsFirst, late, causes, IsFirstOf, false, true, Ok, Err, subst, arith, both_ways, Refusal, may_grow, MayGrow, Holds, Answer, Tells, IsStep, list_any, KeepsMemory, MayLackMemory, lies_outside, Csv, has_session, form, first_holds, one_first, ◌++◌, ℕ, Option, Some, None, subst₂, refused as refused_line, stale_cell, cell_named, Replies, accepted, unserved, RefusedAs, refusal_for, false≢true, left_by, reply, Writes, MayHappen, AreEvents, ◌%◌, ◌+◌, ◌/◌, map, false_from_ne_true, byte, code_of}
+use Rattle.wi_scenarios.specs.Commands.Command.{Drop, As}
 use Rattle.wi_cli.specs.Reply.{refused}
 use Rattle.wi_scenarios.specs.declared.refusal.Refusal.TheVariants as refusal
 
+-- that of its refusal, in two digits
 abbrev pub code : Cause → Bytes
-code BadCommand = codes "02"
-code BadLine = codes "03"
-code Outside = codes "04"
-code OutOfSheet = codes "04"
-code Syntax = codes "05"
-code TooDeep = codes "06"
-code NumberRange = codes "07"
-code TooLong = codes "08"
-code Full = codes "09"
-code NoScenario = codes "10"
-code TooMany = codes "11"
-code InUse = codes "12"
-code CutShort = codes "13"
-code BadField = codes "14"
-code TooLarge = codes "15"
-code LeavesSheet = codes "16"
-code EditLimit = codes "17"
 code Stale = codes "18"
-code Loop = codes "19"
+code x = let n = code_of (refusal_for x) in (byte "0" + n / 10) ∷ (byte "0" + n % 10) ∷ []
 
 -- each cause of the list stands with its code
 abbrev AreCoded : List (Cause × Bytes) → Type 0
@@ -33,17 +18,13 @@ are_coded : AreCoded order
 are_coded =
     (refl, (refl, (refl, (refl, (refl, (refl, (refl, (refl, (refl, (refl, (refl, (refl, (refl, (refl, (refl, (refl, (refl, (refl, (refl, tt)))))))))))))))))))
 
-abbrev only_causes : List (Cause × Bytes) → List Cause
-only_causes [] = []
-only_causes (x ∷ xs) = x.0 ∷ only_causes xs
-
 module _ (s : State) (c : Command) where
-  with_code : (xs : List (Cause × Bytes)) (x : Cause) → AreCoded xs → IsFirstOf s c (only_causes xs) x → IsFirst s c xs (x, code x)
+  with_code : (xs : List (Cause × Bytes)) (x : Cause) → AreCoded xs → IsFirstOf s c (map (λ (y : Cause × Bytes). y.0) xs) x → IsFirst s c xs (x, code x)
   with_code [] x a h = absurd h
   with_code (y ∷ ys) x a (inl h) = inl (h.0, ap₂ (λ (z : Cause) (b : Bytes). let p : Cause × Bytes = (z, b) in p) h.1 (ap code h.1 ∙ sym a.0))
   with_code (y ∷ ys) x a (inr h) = inr (h.0, with_code ys x a.1 h.1)
 
-  without_code : (xs : List (Cause × Bytes)) (x : Cause × Bytes) → AreCoded xs → IsFirst s c xs x → IsFirstOf s c (only_causes xs) x.0 × (x.1 ≡ code x.0)
+  without_code : (xs : List (Cause × Bytes)) (x : Cause × Bytes) → AreCoded xs → IsFirst s c xs x → IsFirstOf s c (map (λ (y : Cause × Bytes). y.0) xs) x.0 × (x.1 ≡ code x.0)
   without_code [] x a h = absurd h
   without_code (y ∷ ys) x a (inl h) =
       let same : x.0 ≡ y.0 = ap (λ (p : Cause × Bytes). p.0) h.1 in
@@ -103,11 +84,7 @@ module _ (s : State) where
   pub may_lack : (c : Command) → list_any lies_outside (form c) ≡ false → MayGrow (IsStep s c) → KeepsMemory c (Err refusal.Memory) s → MayLackMemory s c
   may_lack (Csv force at n lines) e m k = absurd k
   may_lack (Drop name) e m k = absurd (k refl)
-  may_lack (As name) e m k = (by (has_session s.sessions name) (λ f. k f refl), first_late (As name) e (λ h. h) (λ h. h) m)
-    where
-      by : (b : Bool) → (b ≡ true → ⊥) → b ≡ false
-      by true f = absurd (f refl)
-      by false f = refl
+  may_lack (As name) e m k = (false_from_ne_true (has_session s.sessions name) (λ f. k f refl), first_late (As name) e (λ h. h) (λ h. h) m)
   may_lack c e m k = first_late c e (λ h. h) (λ h. h) m
 
 -- ---- the reply to a command, by its step

@@ -1,7 +1,8 @@
 -- The command that a text spells, and the form that it has.
-use Rattle.wi_cli.proofs.Vocabulary.{◌≡◌, Bool, List, None, Option, Some, [], ap, arith, bytes_eq, codes, cond, false, if◌then◌else◌, not, option_map, refl, subst, suc, sym, true, ℕ, ◌+◌, ◌==◌, ◌∙◌, ◌∷◌, both_ways, nat_tests, before_first, prefix_len, csv_named, csv_text, AND, A_CELL, A_NAME, A_RECT, END, Form, MAYBE, Values, as_form, base_form, changes_form, clear_form, compare_form, drop_form, edit_forms, export_form, fill_form, formula_form, named_command, named_in, read_words, scenario_form, set_form, show_form, table_form, use_form, spelled_command, is_all_spaces, Bytes, after_word, first_word, is_space, skip_spaces, is_passed_over, IsWritten, As, Base, Changes, Clear, Command, Compare, Csv, Drop, Export, Fill, Formula, Scenario, Set, Show, Table, Unknown, Unreadable, Use, may_force, ADDR, Cell, CornerCells, NAME, Operand, RECT, WORD, take, byte, forms, made, spelled, form, inl, inr, length, nat_lt, ◌<◌, ◌⊎◌, le-ltb, ltb-false, lines_of, CsvLine, csv_of, csv_operands, read_lines, csv_line, spelled_cell, max_line, without_lf, Asks, IsWithin, line_text, IsSpelled, ANY, LINES, asked, none-some}
+use Rattle.wi_cli.proofs.Vocabulary.{◌≡◌, Bool, List, None, Option, Some, [], ap, arith, bytes_eq, codes, cond, false, if◌then◌else◌, not, option_map, refl, subst, suc, sym, true, ℕ, ◌+◌, ◌==◌, ◌∙◌, ◌∷◌, both_ways, nat_tests, before_first, prefix_len, csv_named, csv_text, AND, A_CELL, A_NAME, A_RECT, END, MAYBE, Values, named_command, named_in, read_words, spelled_command, is_all_spaces, Bytes, after_word, first_word, is_space, skip_spaces, is_passed_over, IsWritten, Command, Csv, Unknown, Unreadable, may_force, ADDR, Cell, CornerCells, NAME, Operand, RECT, WORD, take, byte, made, spelled, form, inl, inr, length, nat_lt, ◌<◌, ◌⊎◌, le-ltb, ltb-false, lines_of, CsvLine, csv_of, csv_operands, read_lines, csv_line, spelled_cell, max_line, without_lf, Asks, IsWithin, line_text, IsSpelled, ANY, LINES, asked, none-some, nil_from_length, Verb, edits, form_of, verbs, without_cr}
+use Rattle.wi_scenarios.specs.Commands.Command.{Set, Clear, Fill, Scenario, Drop, Base, Use, As, Show, Export, Changes, Compare, Table, Formula}
+use Rattle.wi_cli.specs.Inner.Forms.{SET, CLEAR, FILL, SCENARIO, DROP, BASE, USE, AS, SHOW, EXPORT, CHANGES, COMPARE, TABLE, FORMULA}
 use Rattle.wi_cli.proofs.Ties.Words.{no_word, is_word, operands, words_read, are_written, lines_read, lines_or, none_behind}
-use Rattle.wi_cli.specs.Laws.{Takes}
 use Rattle.wi_cli.proofs.Ties.Addresses.{same_addr}
 
 -- a command that a text may spell without data lines
@@ -48,32 +49,35 @@ pub record Said (text : Bytes) (c : Command) : Type 0 where
   pub no_csv : csv_text text ≡ None
   pub kept : is_passed_over text ≡ false
 
-spelled_as : (f : Form) (text : Bytes) (v : Values f.words) → IsWritten text (operands f.words v) → spelled f text ≡ f.make v
+spelled_as : (d : Verb) (text : Bytes) (v : Values (form_of d).words) → IsWritten text (operands (form_of d).words v) → spelled d text ≡ (form_of d).make v
 unfolding spelled
-spelled_as f text v h = ap (λ (o : Option (Values f.words)). made o f.make) (words_read f.words text v h)
+spelled_as d text v h = ap (λ (o : Option (Values (form_of d).words)). made o (form_of d).make) (words_read (form_of d).words text v h)
 
-module _ (text : Bytes) (f : Form) (v : Values f.words) where
-  behind : named_command f.name (after_word text) ≡ spelled f (after_word text) → bytes_eq f.name (codes "force") ≡ false → bytes_eq f.name (codes "csv") ≡ false → may_begin f.name ≡ true
-      → first_word text ≡ f.name → IsWritten (after_word text) (operands f.words v) → Said text (f.make v)
+module _ (text : Bytes) (d : Verb) (v : Values (form_of d).words) where
+  abbrev its_name : Bytes
+  its_name = (form_of d).name
+
+  behind : named_command its_name (after_word text) ≡ spelled d (after_word text) → bytes_eq its_name (codes "force") ≡ false → bytes_eq its_name (codes "csv") ≡ false → may_begin its_name ≡ true
+      → first_word text ≡ its_name → IsWritten (after_word text) (operands (form_of d).words v) → Said text ((form_of d).make v)
   unfolding spelled_command
   behind named no_force no_csv begins e h = record {
-    same = ap (λ (w : Bytes). named_command w (after_word text)) e ∙ named ∙ spelled_as f (after_word text) v h;
+    same = ap (λ (w : Bytes). named_command w (after_word text)) e ∙ named ∙ spelled_as d (after_word text) v h;
     no_csv =
         ap (λ (w : Bytes). if bytes_eq w (codes "force") then csv_named true (first_word (after_word text)) (after_word (after_word text)) else csv_named false w (after_word text)) e
         ∙ rw (no_force, no_csv) refl;
-    kept = not_passed text f.name e begins;
+    kept = not_passed text its_name e begins;
   }
 
   abbrev edited : Bytes
   edited = after_word (after_word text)
 
-  forced : named_in (edit_forms true) f.name edited ≡ spelled f edited → bytes_eq f.name (codes "csv") ≡ false → first_word text ≡ codes "force" → first_word (after_word text) ≡ f.name
-      → IsWritten edited (operands f.words v) → Said text (f.make v)
+  forced : named_in (edits true) its_name edited ≡ spelled d edited → bytes_eq its_name (codes "csv") ≡ false → first_word text ≡ codes "force" → first_word (after_word text) ≡ its_name
+      → IsWritten edited (operands (form_of d).words v) → Said text ((form_of d).make v)
   unfolding spelled_command
   forced named no_csv e g h = record {
     same =
-        ap (λ (w : Bytes). named_command w (after_word text)) e ∙ ap (λ (w : Bytes). named_in (edit_forms true) w edited) g ∙ named
-        ∙ spelled_as f edited v h;
+        ap (λ (w : Bytes). named_command w (after_word text)) e ∙ ap (λ (w : Bytes). named_in (edits true) w edited) g ∙ named
+        ∙ spelled_as d edited v h;
     no_csv =
         ap (λ (w : Bytes). if bytes_eq w (codes "force") then csv_named true (first_word (after_word text)) edited else csv_named false w (after_word text)) e
         ∙ ap (λ (w : Bytes). csv_named true w edited) g ∙ rw no_csv refl;
@@ -81,39 +85,40 @@ module _ (text : Bytes) (f : Form) (v : Values f.words) where
   }
 
 pub said : (text : Bytes) (c : Command) → is_plain c ≡ true → IsWritten text (form c) → Said text c
-said text (Set false at t) p h = behind text (set_form false) (at, t) refl refl refl refl h.0 h.1
-said text (Set true at t) p h = forced text (set_form true) (at, t) refl refl h.0 h.1.0 h.1.1
-said text (Clear false r) p h = behind text (clear_form false) (r, tt) refl refl refl refl h.0 h.1
-said text (Clear true r) p h = forced text (clear_form true) (r, tt) refl refl h.0 h.1.0 h.1.1
-said text (Fill false at r) p h = behind text (fill_form false) (at, (r, tt)) refl refl refl refl h.0 h.1
-said text (Fill true at r) p h = forced text (fill_form true) (at, (r, tt)) refl refl h.0 h.1.0 h.1.1
+said text (Set false at t) p h = behind text (SET false) (at, t) refl refl refl refl h.0 h.1
+said text (Set true at t) p h = forced text (SET true) (at, t) refl refl h.0 h.1.0 h.1.1
+said text (Clear false r) p h = behind text (CLEAR false) (r, tt) refl refl refl refl h.0 h.1
+said text (Clear true r) p h = forced text (CLEAR true) (r, tt) refl refl h.0 h.1.0 h.1.1
+said text (Fill false at r) p h = behind text (FILL false) (at, (r, tt)) refl refl refl refl h.0 h.1
+said text (Fill true at r) p h = forced text (FILL true) (at, (r, tt)) refl refl h.0 h.1.0 h.1.1
 said text (Csv force at n lines) p h = absurd (both_ways false refl p)
-said text (Scenario name at t) p h = behind text scenario_form (name, (at, t)) refl refl refl refl h.0 h.1
-said text (Drop name) p h = behind text drop_form (name, tt) refl refl refl refl h.0 h.1
-said text (Base name None) p h = behind text base_form (name, None) refl refl refl refl h.0 h.1
-said text (Base name (Some other)) p h = behind text base_form (name, Some (other, tt)) refl refl refl refl h.0 h.1
-said text (Use None) p h = behind text use_form None refl refl refl refl h.0 h.1
-said text (Use (Some name)) p h = behind text use_form (Some (name, tt)) refl refl refl refl h.0 h.1
-said text (As name) p h = behind text as_form (name, tt) refl refl refl refl h.0 h.1
-said text (Show r) p h = behind text show_form (r, tt) refl refl refl refl h.0 h.1
-said text (Export r) p h = behind text export_form (r, tt) refl refl refl refl h.0 h.1
-said text (Compare s t r) p h = behind text compare_form (s, (t, (r, tt))) refl refl refl refl h.0 h.1
-said text (Table f r xs None) p h = behind text table_form (f, (r, (xs, None))) refl refl refl refl h.0 h.1
-said text (Table f r xs (Some y)) p h = behind text table_form (f, (r, (xs, Some (y.0, (y.1, tt))))) refl refl refl refl h.0 h.1
-said text (Formula at) p h = behind text formula_form (at, tt) refl refl refl refl h.0 h.1
-said text Changes p h = behind text changes_form tt refl refl refl refl h.0 h.1
+said text (Scenario name at t) p h = behind text SCENARIO (name, (at, t)) refl refl refl refl h.0 h.1
+said text (Drop name) p h = behind text DROP (name, tt) refl refl refl refl h.0 h.1
+said text (Base name None) p h = behind text BASE (name, None) refl refl refl refl h.0 h.1
+said text (Base name (Some other)) p h = behind text BASE (name, Some (other, tt)) refl refl refl refl h.0 h.1
+said text (Use None) p h = behind text USE None refl refl refl refl h.0 h.1
+said text (Use (Some name)) p h = behind text USE (Some (name, tt)) refl refl refl refl h.0 h.1
+said text (As name) p h = behind text AS (name, tt) refl refl refl refl h.0 h.1
+said text (Show r) p h = behind text SHOW (r, tt) refl refl refl refl h.0 h.1
+said text (Export r) p h = behind text EXPORT (r, tt) refl refl refl refl h.0 h.1
+said text (Compare s t r) p h = behind text COMPARE (s, (t, (r, tt))) refl refl refl refl h.0 h.1
+said text (Table f r xs None) p h = behind text TABLE (f, (r, (xs, None))) refl refl refl refl h.0 h.1
+said text (Table f r xs (Some y)) p h = behind text TABLE (f, (r, (xs, Some (y.0, (y.1, tt))))) refl refl refl refl h.0 h.1
+said text (Formula at) p h = behind text FORMULA (at, tt) refl refl refl refl h.0 h.1
+said text Changes p h = behind text CHANGES tt refl refl refl refl h.0 h.1
 said text Unknown p h = absurd (both_ways false refl p)
 said text Unreadable p h = absurd (both_ways false refl p)
 
 -- ---- what is spelled is written
 
 -- a form of commands is the one that they are written in, behind words that stand in front, and none has data lines
-abbrev IsForm : (List Operand → List Operand) → Form → Type 0
-IsForm front f = ((v : Values f.words) → form (f.make v) ≡ front (WORD f.name ∷ operands f.words v)) × ((v : Values f.words) → is_plain (f.make v) ≡ true)
+abbrev IsForm : (List Operand → List Operand) → Verb → Type 0
+IsForm front d =
+    ((v : Values (form_of d).words) → form ((form_of d).make v) ≡ front (WORD (form_of d).name ∷ operands (form_of d).words v)) × ((v : Values (form_of d).words) → is_plain ((form_of d).make v) ≡ true)
 
-abbrev AreForms : (List Operand → List Operand) → List Form → Type 0
+abbrev AreForms : (List Operand → List Operand) → List Verb → Type 0
 AreForms front [] = Unit {0}
-AreForms front (f ∷ fs) = IsForm front f × AreForms front fs
+AreForms front (d ∷ ds) = IsForm front d × AreForms front ds
 
 base_is : (name : Bytes) (o : Option (Bytes × Unit {0})) → form (Base name (option_map (λ x. x.0) o)) ≡ WORD (codes "base") ∷ NAME name ∷ operands (MAYBE A_NAME END) o
 base_is name None = refl
@@ -128,26 +133,26 @@ table_is : (f r : Cell) (xs : CornerCells) (o : Option (Cell × (CornerCells × 
 table_is f r xs None = refl
 table_is f r xs (Some y) = refl
 
-edits_are : (force : Bool) → AreForms (may_force force) (edit_forms force)
+edits_are : (force : Bool) → AreForms (may_force force) (edits force)
 edits_are force = ((λ v. refl, λ v. refl), ((λ v. refl, λ v. refl), ((λ v. refl, λ v. refl), tt)))
 
-all_are : AreForms (may_force false) forms
+all_are : AreForms (may_force false) verbs
 all_are =
     ((λ v. refl, λ v. refl), ((λ v. refl, λ v. refl), ((λ v. base_is v.0 v.1, λ v. refl), ((λ v. use_is v, λ v. refl), ((λ v. refl, λ v. refl), ((λ v. refl, λ v. refl), ((λ v. refl, λ v. refl), ((λ v. refl, λ v. refl), ((λ v. refl, λ v. refl), ((λ v. table_is v.0 v.1.0 v.1.1.0 v.1.1.1, λ v. refl), ((λ v. refl, λ v. refl), edits_are false)))))))))))
 
 -- a name and operands behind it spell a command, or none
 data Says (front : List Operand → List Operand) (name rest : Bytes) (c : Command) : Type 0 where
-  says : (f : Form) (v : Values f.words) → IsForm front f → name ≡ f.name → IsWritten rest (operands f.words v) → c ≡ f.make v → Says front name rest c
+  says : (d : Verb) (v : Values (form_of d).words) → IsForm front d → name ≡ (form_of d).name → IsWritten rest (operands (form_of d).words v) → c ≡ (form_of d).make v → Says front name rest c
   says_none : c ≡ Unknown → Says front name rest c
 
-found : (front : List Operand → List Operand) (fs : List Form) → AreForms front fs → (name rest : Bytes) → Says front name rest (named_in fs name rest)
+found : (front : List Operand → List Operand) (ds : List Verb) → AreForms front ds → (name rest : Bytes) → Says front name rest (named_in ds name rest)
 unfolding spelled
 found front [] are name rest = says_none refl
-found front (f ∷ fs) are name rest = by (bytes_eq name f.name) refl (read_words f.words rest) refl (found front fs are.1 name rest)
+found front (d ∷ ds) are name rest = by (bytes_eq name (form_of d).name) refl (read_words (form_of d).words rest) refl (found front ds are.1 name rest)
   where
-    by : (b : Bool) → bytes_eq name f.name ≡ b → (o : Option (Values f.words)) → read_words f.words rest ≡ o → Says front name rest (named_in fs name rest)
-        → Says front name rest (if b then made o f.make else named_in fs name rest)
-    by true e (Some v) r more = says f v are.0 (is_word _ _ e) (are_written f.words rest v r) refl
+    by : (b : Bool) → bytes_eq name (form_of d).name ≡ b → (o : Option (Values (form_of d).words)) → read_words (form_of d).words rest ≡ o → Says front name rest (named_in ds name rest)
+        → Says front name rest (if b then made o (form_of d).make else named_in ds name rest)
+    by true e (Some v) r more = says d v are.0 (is_word _ _ e) (are_written (form_of d).words rest v r) refl
     by true e None r more = says_none refl
     by false e o r more = more
 
@@ -161,19 +166,19 @@ module _ (text : Bytes) where
   rest = after_word text
 
   abbrev chosen : Bool → Command
-  chosen b = if b then named_in (edit_forms true) (first_word rest) (after_word rest) else named_in forms (first_word text) rest
+  chosen b = if b then named_in (edits true) (first_word rest) (after_word rest) else named_in verbs (first_word text) rest
 
   pub reads : Reads text
   unfolding spelled_command
-  reads = by (bytes_eq (first_word text) (codes "force")) refl (found (may_force true) (edit_forms true) (edits_are true) (first_word rest) (after_word rest))
-      (found (may_force false) forms all_are (first_word text) rest)
+  reads = by (bytes_eq (first_word text) (codes "force")) refl (found (may_force true) (edits true) (edits_are true) (first_word rest) (after_word rest))
+      (found (may_force false) verbs all_are (first_word text) rest)
     where
       by : (b : Bool) → bytes_eq (first_word text) (codes "force") ≡ b → Says (may_force true) (first_word rest) (after_word rest) (chosen true) → Says (may_force false) (first_word text) rest (chosen false) → Reads text
-      by true e (says f v is n w c) more =
-          spells (f.make v) (is.1 v) (subst (λ (os : List Operand). IsWritten text os) (sym (is.0 v)) (is_word _ _ e, (n, w))) (ap chosen e ∙ c)
+      by true e (says d v is n w c) more =
+          spells ((form_of d).make v) (is.1 v) (subst (λ (os : List Operand). IsWritten text os) (sym (is.0 v)) (is_word _ _ e, (n, w))) (ap chosen e ∙ c)
       by true e (says_none c) more = spells_none (ap chosen e ∙ c)
-      by false e other (says f v is n w c) =
-          spells (f.make v) (is.1 v) (subst (λ (os : List Operand). IsWritten text os) (sym (is.0 v)) (n, w)) (ap chosen e ∙ c)
+      by false e other (says d v is n w c) =
+          spells ((form_of d).make v) (is.1 v) (subst (λ (os : List Operand). IsWritten text os) (sym (is.0 v)) (n, w)) (ap chosen e ∙ c)
       by false e other (says_none c) = spells_none (ap chosen e ∙ c)
 
 -- ---- lines that ask for data lines
@@ -256,19 +261,15 @@ text_or text =
 
 -- ---- lines
 
-pub short_line : (line : Bytes) → nat_lt max_line (length (without_lf line)) ≡ false → csv_line (without_lf line) ≡ csv_text (line_text line)
+pub csv_line_by : (content : Bytes) (b : Bool) → nat_lt max_line (length content) ≡ b → csv_line content ≡ (if b then None else csv_text (without_cr content))
 unfolding csv_line
-short_line line e = ap (λ (b : Bool). if b then None else csv_text (line_text line)) e
-
-long_line : (line : Bytes) → nat_lt max_line (length (without_lf line)) ≡ true → csv_line (without_lf line) ≡ None
-unfolding csv_line
-long_line line e = ap (λ (b : Bool). if b then None else csv_text (line_text line)) e
+csv_line_by content b e = ap (λ (v : Bool). if v then None else csv_text (without_cr content)) e
 
 -- a line within the limit that asks for data lines is read as one that does
 pub it_is_read : (line : Bytes) (force : Bool) (o : Option Cell) (n : ℕ) → IsWithin line → IsWritten (line_text line) (form (Csv force o n [])) → IsCsvLine force o n (csv_line (without_lf line))
 it_is_read line force o n within h =
     let r = text_read (line_text line) force o n h in
-    (r.0, short_line line (le-ltb _ _ within) ∙ r.1, r.2)
+    (r.0, csv_line_by (without_lf line) false (le-ltb _ _ within) ∙ r.1, r.2)
 
 pub no_asks : (line : Bytes) → csv_line (without_lf line) ≡ None → (force : Bool) (o : Option Cell) (n : ℕ) → IsWithin line → IsWritten (line_text line) (form (Csv force o n [])) → ⊥
 no_asks line e force o n within h = none-some _ (sym e ∙ (it_is_read line force o n within h).1)
@@ -282,25 +283,29 @@ pub asks_or_not : (line : Bytes) → AsksOrNot line
 asks_or_not line = by (nat_lt max_line (length (without_lf line))) refl (text_or (line_text line))
   where
     by : (b : Bool) → nat_lt max_line (length (without_lf line)) ≡ b → TextReads (line_text line) → AsksOrNot line
-    by true e k = it_asks_none (long_line line e)
-    by false e (inr bad) = it_asks_none (short_line line e ∙ bad)
+    by true e k = it_asks_none (csv_line_by (without_lf line) true e)
+    by false e (inr bad) = it_asks_none (csv_line_by (without_lf line) false e ∙ bad)
     by false e (inl f) = it_asks f.0 f.1 f.2 (ltb-false _ _ e) f.3
 
 pub asked_is : (line : Bytes) (n : ℕ) → Asks line n → asked line ≡ n
 asked_is line n h = ap lines_of (it_is_read line h.1.0 h.1.1 n h.0 h.1.2).1
 
-pub takes : (line : Bytes) → Takes line (asked line)
-takes line = by (asks_or_not line)
+-- so many data lines stand behind a line; none where it asks for none
+abbrev pub Takes : Bytes → List Bytes → Type 0
+Takes line taken = Asks line (length taken) ⊎ ((taken ≡ []) × ((n : ℕ) → Asks line n → ⊥))
+
+pub takes : (line : Bytes) (taken : List Bytes) → asked line ≡ length taken → Takes line taken
+takes line taken e = by (asks_or_not line)
   where
-    by : AsksOrNot line → Takes line (asked line)
+    by : AsksOrNot line → Takes line taken
     by (it_asks force o n within h) =
-        let same : asked line ≡ n = asked_is line n (within, (force, o, h)) in
-        inl (within, (force, o, subst (λ (k : ℕ). IsWritten (line_text line) (form (Csv force o k []))) (sym same) h))
-    by (it_asks_none e) = inr (ap lines_of e, λ k h. no_asks line e h.1.0 h.1.1 k h.0 h.1.2)
+        let same : n ≡ length taken = sym (asked_is line n (within, (force, o, h))) ∙ e in
+        inl (within, (force, o, subst (λ (k : ℕ). IsWritten (line_text line) (form (Csv force o k []))) same h))
+    by (it_asks_none plain) = inr (nil_from_length taken (sym e ∙ ap lines_of plain), λ k h. no_asks line plain h.1.0 h.1.1 k h.0 h.1.2)
 
 pub asks : (line : Bytes) (k : ℕ) → k < asked line → Asks line (asked line)
-asks line k some = by (takes line)
+asks line k some = by (asks_or_not line)
   where
-    by : Takes line (asked line) → Asks line (asked line)
-    by (inl h) = h
-    by (inr h) = absurd (omega (arith, some, h.0))
+    by : AsksOrNot line → Asks line (asked line)
+    by (it_asks force o n within h) = subst (Asks line) (sym (asked_is line n (within, (force, o, h)))) (within, (force, o, h))
+    by (it_asks_none plain) = let nothing : asked line ≡ 0 = ap lines_of plain in absurd (omega (arith, some, nothing))

@@ -1,28 +1,10 @@
 -- Data lines, as they are read and held, and what a line asks for.
-use Rattle.std.specs.Prelude.{◌≡◌, ℕ, ◌+◌, ◌<◌, Bool, true, false, ◌&&◌, ◌==◌, List, [], ◌++◌, length, Option, Some, None, Result, Ok, Err, is_ok, if◌then◌else◌}
-use Rattle.std.specs.List.{list_any, concat}
-use Rattle.wi_values.specs.AddressReading.{read_address}
-use Rattle.wi_values.specs.declared.address.AddressFault.{AddressFault}
-use Rattle.wi_values.specs.declared.address.AddressFault.TheVariants.{Shape, Outside}
-use Rattle.wi_scenarios.specs.declared.refusal.Refusal.{Refusal}
-use Rattle.wi_scenarios.specs.declared.refusal.Refusal.TheVariants.{BadCommand, OutOfSheet, CutShort}
-use Rattle.wi_scenarios.specs.State.{State}
-use Rattle.wi_scenarios.specs.Answer.{Answer}
-use Rattle.wi_scenarios.specs.Commands.Operands.{Cell}
-use Rattle.wi_scenarios.specs.Commands.Command.{Command, Csv, Unreadable}
-use Rattle.wi_scenarios.specs.Commands.Step.{IsStep, IsImportStep}
+use Rattle.wi_cli.specs.Inner.Words.{AddressFault, All, Answer, BadCommand, Bool, Cell, Command, Csv, CutShort, DataLines, Err, Held, IsImportStep, IsStep, Lacking, Line, List, MayLackMemory, None, Ok, Option, OutOfSheet, Outside, Refusal, Result, RunFault, Shape, Some, State, TooLong, Unreadable, [], concat, false, if◌then◌else◌, is_ok, length, list_any, raw_lines, read_address, true, ℕ, ◌&&◌, ◌++◌, ◌+◌, ◌<◌, ◌==◌, ◌≡◌}
 use Rattle.wi_cli.specs.declared.csv_line.CsvLine.{CsvLine as ReadCsv}
-use Rattle.wi_cli.specs.declared.data_lines.Held.{Held}
-use Rattle.wi_cli.specs.declared.data_lines.Held.TheVariants.{All, Lacking, TooLong}
-use Rattle.wi_cli.specs.declared.data_lines.DataLines.{DataLines}
-use Rattle.wi_cli.specs.declared.fault.RunFault.{RunFault}
-use Rattle.wi_cli.specs.Lines.{raw_lines}
-use Rattle.wi_cli.specs.Reply.{MayLackMemory}
 use Rattle.wi_cli.specs.Inner.Script.{CsvLine, is_long}
 use Rattle.wi_cli.specs.Inner.Told.{RefusedAs}
 use Rattle.wi_cli.specs.Inner.Reading.{Place}
 use Rattle.wi_cli.specs.Inner.Turn.{TookLines, BrokeLines}
-use Rattle.wi_cli.specs.declared.line.Line.{Line}
 use Rattle.wi_cli.specs.Inner.Operands.{IsRead}
 use Rattle.wi_cli.specs.declared.line.Line.TheVariants as read
 
@@ -79,10 +61,8 @@ abbrev pub IsTarget : Command → Bool → List ℕ → Result ℕ Refusal → T
 IsTarget c force bytes (Ok at) = (s : State) → MayLackMemory s c × ((a : Answer) → IsImportStep s force at bytes a → IsStep s c a)
 IsTarget c force bytes (Err e) = (s : State) → RefusedAs e s c
 
--- ---- what a line asks for, as it is read
-
--- of a line that asks for these data lines, if for any, is UTF-8 or not, and has this command, if it has one, where it
--- asks for none
+-- what is read of a line that asks for these data lines, if for any, is UTF-8 or not, and has this command, if it has
+-- one, where it asks for none
 abbrev pub IsAsked : Option CsvLine → Bool → Option Command → Line → Type 0
 IsAsked asked text o read.Passed = (asked ≡ None) × (o ≡ None)
 IsAsked asked text o (read.Csv csv) = IsCsv asked (Some csv) × (csv.is_text ≡ text)

@@ -1,10 +1,6 @@
 -- The command that a text spells, by the forms of commands.
-use Rattle.std.specs.Prelude.{Bool, true, false, List, [], ◌∷◌, Option, Some, None, option_map, if◌then◌else◌, codes}
-use Rattle.std.specs.Str.{bytes_eq}
-use Rattle.wi_values.specs.Name.{Bytes, read_name}
-use Rattle.wi_scenarios.specs.Commands.Operands.{Cell, CornerCells}
-use Rattle.wi_scenarios.specs.Commands.Command.{Command, Set, Clear, Fill, Scenario, Drop, Base, Use, As, Show, Export, Changes, Compare, Table, Formula, Unknown}
-use Rattle.wi_cli.specs.Lines.{first_word, after_word}
+use Rattle.wi_scenarios.specs.Commands.Command.{Set, Clear, Fill, Scenario, Drop, Base, Use, As, Show, Export, Changes, Compare, Table, Formula}
+use Rattle.wi_cli.specs.Inner.Words.{Bool, Bytes, Cell, Command, CornerCells, List, None, Option, Some, Unknown, [], after_word, bytes_eq, codes, false, first_word, if◌then◌else◌, option_map, read_name, true, ◌∷◌}
 use Rattle.wi_cli.specs.Inner.Operands.{is_all_spaces, both, spelled_cell, spelled_rect, read_side}
 
 -- ---- words
@@ -56,76 +52,53 @@ abbrev pub made : {X : Type 0} → Option X → (X → Command) → Command
 made (Some x) make = make x
 made None make = Unknown
 
--- the command of these operands
-unfoldable pub spelled : Form → Bytes → Command
-spelled f operands = made (read_words f.words operands) f.make
+-- The commands without data lines. Of those that may be forced it is told whether they are.
+pub data Verb : Type 0 where
+  SET CLEAR FILL : Bool → Verb
+  SCENARIO DROP BASE USE AS SHOW EXPORT CHANGES COMPARE TABLE FORMULA : Verb
 
-abbrev pub set_form : Bool → Form
-set_form force = record { name = codes "set"; words = AND A_CELL TEXT; make = λ v. Set force v.0 v.1 }
-
-abbrev pub clear_form : Bool → Form
-clear_form force = record { name = codes "clear"; words = AND A_RECT END; make = λ v. Clear force v.0 }
-
-abbrev pub fill_form : Bool → Form
-fill_form force = record { name = codes "fill"; words = AND A_CELL (AND A_RECT END); make = λ v. Fill force v.0 v.1.0 }
-
-abbrev pub scenario_form : Form
-scenario_form = record { name = codes "scenario"; words = AND A_NAME (AND A_CELL TEXT); make = λ v. Scenario v.0 v.1.0 v.1.1 }
-
-abbrev pub drop_form : Form
-drop_form = record { name = codes "drop"; words = AND A_NAME END; make = λ v. Drop v.0 }
-
-abbrev pub base_form : Form
-base_form = record { name = codes "base"; words = AND A_NAME (MAYBE A_NAME END); make = λ v. Base v.0 (option_map (λ x. x.0) v.1) }
-
-abbrev pub use_form : Form
-use_form = record { name = codes "use"; words = MAYBE A_NAME END; make = λ v. Use (option_map (λ x. x.0) v) }
-
-abbrev pub as_form : Form
-as_form = record { name = codes "as"; words = AND A_SESSION END; make = λ v. As v.0 }
-
-abbrev pub show_form : Form
-show_form = record { name = codes "show"; words = AND A_RECT END; make = λ v. Show v.0 }
-
-abbrev pub export_form : Form
-export_form = record { name = codes "export"; words = AND A_RECT END; make = λ v. Export v.0 }
-
-abbrev pub changes_form : Form
-changes_form = record { name = codes "changes"; words = END; make = λ v. Changes }
-
-abbrev pub compare_form : Form
-compare_form = record { name = codes "compare"; words = AND A_SIDE (AND A_SIDE (AND A_RECT END)); make = λ v. Compare v.0 v.1.0 v.1.1.0 }
-
-abbrev pub table_form : Form
-table_form = record {
+abbrev pub form_of : Verb → Form
+form_of (SET force) = record { name = codes "set"; words = AND A_CELL TEXT; make = λ v. Set force v.0 v.1 }
+form_of (CLEAR force) = record { name = codes "clear"; words = AND A_RECT END; make = λ v. Clear force v.0 }
+form_of (FILL force) = record { name = codes "fill"; words = AND A_CELL (AND A_RECT END); make = λ v. Fill force v.0 v.1.0 }
+form_of SCENARIO = record { name = codes "scenario"; words = AND A_NAME (AND A_CELL TEXT); make = λ v. Scenario v.0 v.1.0 v.1.1 }
+form_of DROP = record { name = codes "drop"; words = AND A_NAME END; make = λ v. Drop v.0 }
+form_of BASE = record { name = codes "base"; words = AND A_NAME (MAYBE A_NAME END); make = λ v. Base v.0 (option_map (λ x. x.0) v.1) }
+form_of USE = record { name = codes "use"; words = MAYBE A_NAME END; make = λ v. Use (option_map (λ x. x.0) v) }
+form_of AS = record { name = codes "as"; words = AND A_SESSION END; make = λ v. As v.0 }
+form_of SHOW = record { name = codes "show"; words = AND A_RECT END; make = λ v. Show v.0 }
+form_of EXPORT = record { name = codes "export"; words = AND A_RECT END; make = λ v. Export v.0 }
+form_of CHANGES = record { name = codes "changes"; words = END; make = λ v. Changes }
+form_of COMPARE = record { name = codes "compare"; words = AND A_SIDE (AND A_SIDE (AND A_RECT END)); make = λ v. Compare v.0 v.1.0 v.1.1.0 }
+form_of TABLE = record {
   name = codes "table";
   words = AND A_CELL (AND A_CELL (AND A_RECT (MAYBE A_CELL (AND A_RECT END))));
   make = λ v. Table v.0 v.1.0 v.1.1.0 (option_map (λ y. (y.0, y.1.0)) v.1.1.1);
 }
+form_of FORMULA = record { name = codes "formula"; words = AND A_CELL END; make = λ v. Formula v.0 }
 
-abbrev pub formula_form : Form
-formula_form = record { name = codes "formula"; words = AND A_CELL END; make = λ v. Formula v.0 }
+-- the command of these operands
+unfoldable pub spelled : Verb → Bytes → Command
+spelled verb operands = made (read_words (form_of verb).words operands) (form_of verb).make
 
 -- the commands that may be forced, and all
-abbrev pub edit_forms : Bool → List Form
-edit_forms force = set_form force ∷ clear_form force ∷ fill_form force ∷ []
+abbrev pub edits : Bool → List Verb
+edits force = SET force ∷ CLEAR force ∷ FILL force ∷ []
 
-abbrev pub forms : List Form
-forms =
-    scenario_form ∷ drop_form ∷ base_form ∷ use_form ∷ as_form ∷ show_form ∷ export_form ∷ changes_form ∷ compare_form ∷ table_form ∷ formula_form
-    ∷ edit_forms false
+abbrev pub verbs : List Verb
+verbs = SCENARIO ∷ DROP ∷ BASE ∷ USE ∷ AS ∷ SHOW ∷ EXPORT ∷ CHANGES ∷ COMPARE ∷ TABLE ∷ FORMULA ∷ edits false
 
 -- ---- a text
 
 -- the command of this name
-abbrev pub named_in : List Form → Bytes → Bytes → Command
+abbrev pub named_in : List Verb → Bytes → Bytes → Command
 named_in [] name operands = Unknown
-named_in (f ∷ fs) name operands = if bytes_eq name f.name then spelled f operands else named_in fs name operands
+named_in (v ∷ vs) name operands = if bytes_eq name (form_of v).name then spelled v operands else named_in vs name operands
 
 -- `force` stands before the name of an edit
 abbrev pub named_command : Bytes → Bytes → Command
 named_command name operands =
-    if bytes_eq name (codes "force") then named_in (edit_forms true) (first_word operands) (after_word operands) else named_in forms name operands
+    if bytes_eq name (codes "force") then named_in (edits true) (first_word operands) (after_word operands) else named_in verbs name operands
 
 -- the command that a text spells
 unfoldable pub spelled_command : Bytes → Command

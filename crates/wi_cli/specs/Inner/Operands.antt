@@ -1,25 +1,6 @@
 -- The operands of commands, as they are read, and the commands that have them.
-use Rattle.std.specs.Prelude.{ℕ, Bool, ◌+◌, ◌-◌, ◌==◌, ◌&&◌, ◌||◌, nat_lt, take, drop, List, Option, Some, None, option_map, Result, Ok, Err, if◌then◌else◌, codes, ◌≡◌, ◌≢◌, false}
-use Rattle.std.specs.List.{list_all, prefix_len, position, list_any}
-use Rattle.std.specs.Char.{is_ascii_alphabetic}
-use Rattle.std.specs.Str.{byte, bytes_eq}
-use Rattle.std.specs.Str.Parse.{digits_value}
-use Rattle.std.specs.Result.{result_err}
-use Rattle.wi_values.specs.Address.{Area, letters_value, is_row_number, is_column, is_row}
-use Rattle.wi_values.specs.Name.{read_name, bytes_of}
-use Rattle.wi_values.specs.declared.address.AddressFault.{AddressFault}
-use Rattle.wi_values.specs.declared.address.AddressFault.TheVariants.{Shape, Outside}
-use Rattle.wi_scenarios.specs.declared.refusal.Refusal.{Refusal}
-use Rattle.wi_scenarios.specs.declared.refusal.Refusal.TheVariants.{BadCommand, Memory}
-use Rattle.wi_scenarios.specs.Answer.{operand_refusal}
-use Rattle.wi_scenarios.specs.Commands.Operands.{Cell, CornerCells, is_outside, address, area, cell, corners}
-use Rattle.wi_scenarios.specs.Commands.Command.{Command, Fill, Table, Set, Clear, Scenario, Drop, Base, Use, As, Show, Export, Changes, Compare, Formula, form}
-use Rattle.wi_values.specs.AddressReading.{read_address, read_rect}
-use Rattle.wi_values.specs.declared.name.Name.{Name}
-use Rattle.wi_scenarios.specs.State.{State}
-use Rattle.wi_scenarios.specs.Commands.Causes.{lies_outside}
-use Rattle.wi_scenarios.specs.Commands.Step.{IsStep}
-use Rattle.wi_cli.specs.Lines.{is_space, first_word, after_word}
+use Rattle.wi_scenarios.specs.Commands.Command.{Set, Clear, Fill, Scenario, Drop, Base, Use, As, Show, Export, Changes, Compare, Table, Formula}
+use Rattle.wi_cli.specs.Inner.Words.{AddressFault, Area, BadCommand, Bool, Cell, Command, CornerCells, Err, IsStep, List, Memory, None, Ok, Option, Outside, Refusal, Result, Shape, Some, State, address, after_word, area, byte, bytes_eq, bytes_of, cell, codes, corners, digits_value, drop, false, first_word, form, if◌then◌else◌, is_ascii_alphabetic, is_column, is_outside, is_row, is_row_number, is_space, letters_value, lies_outside, list_all, list_any, nat_lt, operand_refusal, option_map, position, prefix_len, read_address, read_name, read_rect, result_err, take, ℕ, ◌&&◌, ◌+◌, ◌-◌, ◌==◌, ◌||◌, ◌≡◌, ◌≢◌}
 use Rattle.wi_cli.specs.declared.command.Command.{Command as ReadCommand}
 use Rattle.wi_cli.specs.declared.command.Command.TheVariants as read
 
@@ -38,8 +19,7 @@ spelled_cell word =
 
 abbrev pub both : {X Y : Type 0} → Option X → Option Y → Option (X × Y)
 both (Some x) (Some y) = Some (x, y)
-both (Some x) None = None
-both None o = None
+both o p = None
 
 -- the corners of a word whose first colon is known: without one it is a single cell's
 abbrev pub spelled_corners : List ℕ → Option ℕ → Option CornerCells
@@ -84,9 +64,8 @@ line_fault is_line (Err fault) = Some fault
 -- of two operands: the wrong form of either comes before a cell outside the sheet
 abbrev pub worse : Option AddressFault → Option AddressFault → Option AddressFault
 worse None other = other
-worse (Some Shape) other = Some Shape
-worse (Some Outside) None = Some Outside
 worse (Some Outside) (Some fault) = Some fault
+worse one other = one
 
 -- the command, unless an operand is refused
 abbrev pub unless_refused : Option AddressFault → Reading → Reading
@@ -184,12 +163,7 @@ unfoldable pub IsRead : Command → Result ReadCommand Refusal → Type 0
 IsRead c (Ok d) = IsReadAs c (Ok (command_of d))
 IsRead c (Err e) = IsReadAs c (Err e) × (e ≢ Memory)
 
--- a name that was read
-abbrev pub IsNameOf : Option (List ℕ) → Result Name Refusal → Type 0
-IsNameOf o (Ok name) = o ≡ Some (bytes_of name)
-IsNameOf o (Err e) = (o ≡ None) × (e ≡ BadCommand)
-
--- a name that was read, or none, where none may stand
-abbrev pub IsNameOrNoneOf : Option (Option (List ℕ)) → Result (Option Name) Refusal → Type 0
-IsNameOrNoneOf o (Ok name) = o ≡ Some (option_map bytes_of name)
-IsNameOrNoneOf o (Err e) = (o ≡ None) × (e ≡ BadCommand)
+-- what was read stands for this, a name or maybe none, if there is one
+abbrev pub IsNamed : {X Y : Type 0} → (X → Y) → Option Y → Result X Refusal → Type 0
+IsNamed of o (Ok x) = o ≡ Some (of x)
+IsNamed of o (Err e) = (o ≡ None) × (e ≡ BadCommand)

@@ -1,23 +1,13 @@
 -- The bytes that are still to come, what the reader of lines takes of them, and how far a script was read.
-use Rattle.std.specs.Prelude.{ℕ, ◌+◌, ◌*◌, List, length, Option, ◌≡◌, ◌<◌, ◌≤◌, Bool, true, false, [], ◌∷◌, ◌++◌, take, Result, MatchResult, if◌then◌else◌, codes, nat_lt}
-use Rattle.std.specs.Io.KnownBytes.{prepend_known, Consumes, IsAtEnd}
-use Rattle.wi_scenarios.specs.State.{State}
-use Rattle.wi_cli.specs.declared.fault.RunFault.{RunFault}
-use Rattle.wi_cli.specs.declared.fault.RunFault.TheVariants.{Memory, Read, Write, ScriptLimit}
-use Rattle.wi_cli.specs.Lines.{is_whole, max_line, max_lines}
-use Rattle.wi_cli.specs.declared.lines.LineReader.{LineReader}
+use Rattle.wi_cli.specs.Inner.Words.{Bool, Consumes, IsAtEnd, LineReader, List, MatchResult, Option, Read, Result, RunFault, ScriptLimit, State, [], codes, false, if◌then◌else◌, is_whole, length, max_line, max_lines, nat_lt, prepend_known, take, true, ℕ, ◌*◌, ◌++◌, ◌+◌, ◌<◌, ◌∷◌, ◌≡◌, ◌≤◌}
 
 -- the bytes in the buffer and then the source's are bs and then what they are now
 abbrev pub Takes : List ℕ → Option (List ℕ) → List ℕ → Option (List ℕ) → List ℕ → Type 0
 Takes buffer left buffer' left' bs = Consumes (prepend_known buffer left) (prepend_known buffer' left') bs
 
--- how many bytes one read gives, at most
-abbrev pub max_read : ℕ
-max_read = 4096
-
--- how many bytes can still come, at most
+-- how many bytes can still come, at most: 4,096 by each read
 abbrev pub budget : List ℕ → ℕ → ℕ
-budget buffer reads = length buffer + max_read * reads
+budget buffer reads = length buffer + 4096 * reads
 
 -- ---- the reader of lines
 
@@ -63,11 +53,10 @@ pub record TookLine (allowed whole : Bool) (buffer : List ℕ) (left : Option (L
 
 -- why no line was taken: the source failed within one, or one more would be too many
 abbrev pub Broke : RunFault → Bool → List ℕ → Option (List ℕ) → List ℕ → Option (List ℕ) → Type 0
-Broke Memory allowed buffer left buffer' left' = ⊥
 Broke Read allowed buffer left buffer' left' =
     (content : List ℕ) × (is_whole content ≡ false) × (buffer' ≡ []) × Takes buffer left buffer' left' content × (0 < length content → allowed ≡ true)
-Broke Write allowed buffer left buffer' left' = ⊥
 Broke ScriptLimit allowed buffer left buffer' left' = (b : ℕ) × (allowed ≡ false) × Takes buffer left buffer' left' (b ∷ [])
+Broke fault allowed buffer left buffer' left' = ⊥
 
 -- ---- how far a script was read, and how far a run has come
 

@@ -1,9 +1,5 @@
--- The commands that a script spells: blocks of a line and the data lines that it takes.
-use Rattle.std.specs.Prelude.{ℕ, Bool, true, false, ◌&&◌, nat_lt, nat_le, List, length, Option, Some, None, if◌then◌else◌, codes, ◌-◌, ◌==◌, [], ◌∷◌, ◌++◌, ◌||◌, not, take, filter, filter_map}
-use Rattle.std.specs.Str.{bytes_eq, all_ascii_digits, byte, is_utf8}
-use Rattle.std.specs.Str.Parse.{digits_value}
-use Rattle.wi_scenarios.specs.Commands.Command.{Command, Csv, Unreadable}
-use Rattle.wi_cli.specs.Lines.{without_lf, without_cr, max_line, first_word, after_word, raw_lines, is_whole, max_lines}
+-- The commands that lines spell: blocks of a line and the data lines that it takes.
+use Rattle.wi_cli.specs.Inner.Words.{Bool, Command, Csv, List, None, Option, Some, Unreadable, [], after_word, all_ascii_digits, byte, bytes_eq, codes, digits_value, false, first_word, if◌then◌else◌, is_utf8, length, max_line, nat_le, nat_lt, not, true, without_cr, without_lf, ℕ, ◌&&◌, ◌++◌, ◌-◌, ◌==◌, ◌||◌, ◌∷◌}
 use Rattle.wi_cli.specs.Inner.Operands.{is_all_spaces, spelled_cell}
 use Rattle.wi_cli.specs.Inner.Forms.{spelled_command}
 
@@ -59,14 +55,17 @@ pub record Block : Type 0 where
   pub data_lines : List (List ℕ)
   pub missing : ℕ
 
--- how many data lines a line takes
 abbrev pub lines_of : Option CsvLine → ℕ
 lines_of None = 0
 lines_of (Some csv) = csv.lines
 
+-- how many data lines a line asks for
+abbrev pub asked : List ℕ → ℕ
+asked line = lines_of (csv_line (without_lf line))
+
 -- the block that a line begins
 abbrev pub begun : List ℕ → Block
-begun line = record { line = line; data_lines = []; missing = lines_of (csv_line (without_lf line)) }
+begun line = record { line = line; data_lines = []; missing = asked line }
 
 -- a block with one data line more
 abbrev pub with_data : Block → List ℕ → Block
@@ -85,9 +84,7 @@ abbrev pub blocks : List (List ℕ) → List Block
 blocks [] = []
 blocks (l ∷ ls) = blocks_from (begun l) ls
 
--- ---- the commands that a script spells
-
--- ---- lines
+-- ---- the commands of lines
 
 abbrev pub is_comment : List ℕ → Bool
 is_comment [] = false
@@ -104,8 +101,6 @@ line_command content =
     if nat_lt max_line (length content) || not (is_utf8 (without_cr content)) then Some Unreadable
     else text_command (without_cr content)
 
--- ---- blocks
-
 abbrev pub command_with : Option CsvLine → Block → Option Command
 command_with None b = line_command (without_lf b.line)
 command_with (Some csv) b =
@@ -114,26 +109,3 @@ command_with (Some csv) b =
 -- The command of a line with its data lines. One that asks for data lines is refused where it is not UTF-8.
 abbrev pub block_command : Block → Option Command
 block_command b = command_with (csv_line (without_lf b.line)) b
-
--- ---- scripts
-
--- the commands of lines, each given with its LF
-abbrev pub commands : List (List ℕ) → List Command
-commands ls = filter_map block_command (blocks ls)
-
--- the lines up to the first that lacks its LF
-abbrev pub whole_lines : List (List ℕ) → List (List ℕ)
-whole_lines [] = []
-whole_lines (l ∷ ls) = if is_whole l then l ∷ whole_lines ls else []
-
--- the commands of a script that has ended
-unfoldable pub all_commands : List ℕ → List Command
-all_commands script = commands (raw_lines script)
-
--- the commands of those lines that are complete, with all their data lines, where the end of the script has not come
-unfoldable pub complete_commands : List (List ℕ) → List Command
-complete_commands ls = filter_map block_command (filter is_complete (blocks (whole_lines ls)))
-
--- the lines that a run may have
-unfoldable pub limited : List (List ℕ) → List (List ℕ)
-limited ls = take max_lines ls

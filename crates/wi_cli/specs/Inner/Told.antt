@@ -1,25 +1,10 @@
 -- The reply to a command, and what is told of one line.
-use Rattle.std.specs.Prelude.{ℕ, ◌+◌, ◌/◌, ◌%◌, List, [], ◌∷◌, ◌++◌, Ok, Err, codes, ◌≡◌, true, Option, Some, None, Result}
-use Rattle.std.specs.Str.{byte}
-use Rattle.wi_values.specs.Address.{address_text}
-use Rattle.wi_scenarios.specs.declared.refusal.Refusal.{Refusal}
-use Rattle.wi_scenarios.specs.declared.refusal.Refusal.TheVariants.{Stale, Memory}
-use Rattle.wi_scenarios.specs.Answer.{Answer, code_of, Serves}
-use Rattle.wi_sessions.specs.Sessions.{has_session}
-use Rattle.wi_scenarios.specs.State.{State}
-use Rattle.wi_scenarios.specs.Commands.Command.{Command, Csv, Drop, As}
-use Rattle.wi_scenarios.specs.Commands.Step.{IsStep}
-use Rattle.wi_cli.specs.declared.reply.Reply.{Reply}
-use Rattle.wi_cli.specs.declared.reply.Reply.TheVariants.{Passed, Done, Refused}
-use Rattle.wi_cli.specs.Reply.{MayLackMemory}
-
--- the byte of a digit
-abbrev pub digit_byte : ℕ → ℕ
-digit_byte n = byte "0" + n
+use Rattle.wi_scenarios.specs.Commands.Command.{Drop, As}
+use Rattle.wi_cli.specs.Inner.Words.{Answer, Command, Csv, Done, Err, IsStep, List, MayLackMemory, Memory, None, Ok, Option, Passed, Refusal, Refused, Reply, Result, Serves, Some, Stale, State, [], address_text, byte, code_of, codes, has_session, true, ℕ, ◌%◌, ◌++◌, ◌+◌, ◌/◌, ◌∷◌, ◌≡◌}
 
 -- `refused E`, and a code in two digits
 abbrev pub refused_code : ℕ → List ℕ
-refused_code code = codes "refused E" ++ digit_byte (code / 10) ∷ digit_byte (code % 10) ∷ []
+refused_code code = codes "refused E" ++ (byte "0" + code / 10) ∷ (byte "0" + code % 10) ∷ []
 
 -- behind the code of a stale cell a space, and its address
 abbrev pub refused_cell : Refusal → List ℕ
@@ -30,13 +15,9 @@ refused_cell e = []
 unfoldable pub refused : Refusal → List ℕ
 refused e = refused_code (code_of e) ++ refused_cell e ++ codes "\n"
 
--- the line `ok`
-abbrev pub ok_line : List ℕ
-ok_line = codes "ok\n"
-
 -- the records and then `ok`, or the refusal
 abbrev pub reply : Answer → List ℕ
-reply (Ok a) = a.1 ++ ok_line
+reply (Ok a) = a.1 ++ codes "ok\n"
 reply (Err e) = refused e
 
 -- ---- what is told of one line
@@ -61,14 +42,12 @@ RefusedAs e s c = IsStep s c (Err e)
 -- the line is passed over, or its command is answered by the step, or as out of memory
 abbrev pub Told : Option Command → Reply → State → State → List ℕ → Type 0
 Told None Passed s t out = t ≡ s
-Told None Done s t out = ⊥
-Told None (Refused e) s t out = ⊥
-Told (Some c) Passed s t out = ⊥
 Told (Some c) Done s t out = IsStep s c (Ok (t, out))
 Told (Some c) (Refused e) s t out = (t ≡ s) × RefusedAs e s c
+Told o a s t out = ⊥
 
 -- the bytes that tell it
 abbrev pub reply_bytes : Reply → List ℕ → List ℕ
 reply_bytes Passed out = []
-reply_bytes Done out = out ++ ok_line
+reply_bytes Done out = out ++ codes "ok\n"
 reply_bytes (Refused e) out = refused e

@@ -1,16 +1,7 @@
 -- Lines that were taken from the source, and what one turn of a run does.
-use Rattle.std.specs.Prelude.{ℕ, ◌≤◌, List, length, take, Option, ◌≡◌, ◌+◌, Bool, true, false, [], ◌∷◌, ◌++◌, filter, ◌<◌, filter_map, Result, Ok, Err}
-use Rattle.std.specs.Io.KnownBytes.{Appends}
-use Rattle.std.specs.List.{concat}
-use Rattle.std.specs.Option.{option_to_list}
-use Rattle.wi_scenarios.specs.Commands.Command.{Command}
-use Rattle.wi_cli.specs.declared.fault.RunFault.{RunFault}
-use Rattle.wi_cli.specs.declared.fault.RunFault.TheVariants.{Memory, Read, Write, ScriptLimit}
+use Rattle.wi_cli.specs.Inner.Words.{Appends, Bool, Command, Err, List, Ok, Option, Read, Reply, Result, RunFault, ScriptLimit, Write, Writes, [], concat, false, filter, filter_map, is_whole, length, max_lines, option_to_list, raw_lines, take, true, ℕ, ◌++◌, ◌+◌, ◌<◌, ◌∷◌, ◌≡◌, ◌≤◌}
 use Rattle.wi_cli.specs.Inner.Reading.{Place, Advances, IsOver, Stage}
-use Rattle.wi_cli.specs.Lines.{raw_lines, is_whole, max_lines}
-use Rattle.wi_cli.specs.Inner.Script.{Block, blocks, is_complete, whole_lines, block_command}
-use Rattle.wi_cli.specs.declared.reply.Reply.{Reply}
-use Rattle.wi_cli.specs.Outcome.{Writes}
+use Rattle.wi_cli.specs.Inner.Script.{Block, blocks, is_complete, block_command}
 use Rattle.wi_cli.specs.Inner.Told.{reply_bytes}
 
 -- known bytes grow by a front of bs
@@ -22,7 +13,7 @@ AppendsFront old new bs = (n : ℕ) × (n ≤ length bs) × Appends old new (tak
 -- Lines that end with their LF, whatever comes after them.
 pub record AreWhole (ls : List (List ℕ)) : Type 0 where
   pub first : (rest : List ℕ) → raw_lines (concat ls ++ rest) ≡ ls ++ raw_lines rest
-  pub whole : (more : List (List ℕ)) → whole_lines (ls ++ more) ≡ ls ++ whole_lines more
+  pub whole : filter is_whole ls ≡ ls
 
 -- Lines that are these complete blocks, whatever comes after them.
 pub record AreBlocks (ls : List (List ℕ)) (bs : List Block) : Type 0 where
@@ -49,12 +40,11 @@ pub record TookLines (whole : Bool) (p q : Place) : Type 0 where
 
 -- why no line was taken behind these: the source failed within one, or one more would be too many
 abbrev pub BrokeBehind : RunFault → Place → Place → List (List ℕ) → Type 0
-BrokeBehind Memory p q lines = ⊥
 BrokeBehind Read p q lines =
     (last : List ℕ) × (is_whole last ≡ false) × (q.chunk ≡ []) × Advances p q (concat lines ++ last)
     × ((p.lines + length lines) + length (raw_lines last) ≤ max_lines)
-BrokeBehind Write p q lines = ⊥
 BrokeBehind ScriptLimit p q lines = (b : ℕ) × Advances p q (concat lines ++ b ∷ []) × (p.lines + length lines ≡ max_lines)
+BrokeBehind fault p q lines = ⊥
 
 -- lines were taken, and no more
 pub record BrokeLines (fault : RunFault) (p q : Place) : Type 0 where
@@ -92,10 +82,8 @@ IsReplied whole reply records (Err e) given given' = ⊥
 
 -- no block was served, or a front of the reply to one was written
 abbrev pub Stopped : RunFault → Stage → Stage → Type 0
-Stopped Memory old new = ⊥
-Stopped Read old new = BrokeBlock Read old.read new.read × (new.state ≡ old.state) × (new.written ≡ old.written)
 Stopped Write old new = (whole : Bool) × (served : Served whole old new) × AppendsFront old.written new.written served.reply
-Stopped ScriptLimit old new = BrokeBlock ScriptLimit old.read new.read × (new.state ≡ old.state) × (new.written ≡ old.written)
+Stopped fault old new = BrokeBlock fault old.read new.read × (new.state ≡ old.state) × (new.written ≡ old.written)
 
 abbrev pub IsTurn : Result Bool RunFault → Stage → Stage → Type 0
 IsTurn (Ok whole) old new = (served : Served whole old new) × Appends old.written new.written served.reply

@@ -1,12 +1,12 @@
 use Rattle.wi_cli.proofs.Vocabulary.{refl}
 use Rattle.wi_cli.specs.declared.line.Line.TheVariants as read
-use Rattle.wi_cli.proofs.AskedLemmas.{plain_asked, text_asked}
+use Rattle.wi_cli.proofs.AskedLemmas.{text_asked}
 use Rattle.wi_cli.proofs.line.read_command.Goals as goal
 
 pub returns-in-set : goal.returns-in-set
 returns-in-set c =
     text_asked c.args.text.now c.split_word.result.0.now c.split_word.result.1.now (read.Command c.read_set.result) c.split_word.ensures.word c.split_word.ensures.rest
-    (plain_asked c.split_word.result.0.now c.split_word.result.1.now _ _ c.in-set.is refl c.read_set.ensures)
+    (rw c.in-set.is (refl, (_, refl, c.read_set.ensures)))
 
 pub returns-in_default : goal.returns-in_default
 returns-in_default c =
