@@ -1,5 +1,5 @@
 -- Codes and replies, by the step of a command, and what a run has written.
-use Rattle.wi_cli.proofs.Vocabulary.{◌≡◌, List, [], ◌∷◌, inl, inr, codes, refl, sym, ap, ap₂, ◌∙◌, Contains, State, Bytes, Command, Cause, BadLine, BadCommand, CutShort, Outside, TooLarge, NoScenario, InUse, TooMany, BadField, TooLong, OutOfSheet, NumberRange, TooDeep, Syntax, LeavesSheet, Stale, Loop, Full, EditLimit, order, IsFirst, late, causes, IsFirstOf, false, true, Ok, Err, subst, arith, both_ways, Refusal, may_grow, MayGrow, Holds, Answer, Tells, IsStep, Bool, list_any, KeepsMemory, MayLackMemory, lies_outside, As, Csv, Drop, has_session, form, first_holds, one_first, ◌++◌, ℕ, Option, Some, None, subst₂, refused as refused_line, stale_cell, cell_named, Replies, accepted, unserved, RefusedAs, refusal_for, false≢true, left_by, reply, Writes, MayHappen, AreEvents}
+use Rattle.wi_cli.proofs.Vocabulary.{◌≡◌, List, [], ◌∷◌, inl, inr, codes, refl, sym, ap, ap₂, ◌∙◌, Contains, State, Bytes, Command, Cause, BadLine, BadCommand, CutShort, Outside, TooLarge, NoScenario, InUse, TooMany, BadField, TooLong, OutOfSheet, NumberRange, TooDeep, Syntax, LeavesSheet, Stale, Loop, Full, EditLimit, order, IsFirst, late, causes, IsFirstOf, false, true, Ok, Err, subst, arith, both_ways, Refusal, may_grow, MayGrow, Holds, Answer, Tells, IsStep, Bool, list_any, KeepsMemory, MayLackMemory, lies_outside, As, Csv, Drop, has_session, form, first_holds, one_first, ◌++◌, ℕ, Option, Some, None, subst₂, refused as refused_line, stale_cell, cell_named, Replies, accepted, unserved, RefusedAs, false≢true, left_by, reply, Writes, MayHappen, AreEvents}
 use Rattle.wi_cli.specs.Reply.{refused}
 use Rattle.wi_scenarios.specs.declared.refusal.Refusal.TheVariants as refusal
 
@@ -128,7 +128,7 @@ module _ (s : State) (c : Command) where
       by : (o : Option ℕ) → stale_cell s c ≡ o → (stale_cell s c ≡ None → ⊥) → (e : Refusal) × Tells s c Stale e
       by None e h = absurd (h e)
       by (Some at) e h = (refusal.Stale at, (at, e, refl))
-  has_refusal x h = (refusal_for x, refl)
+  has_refusal x h = (_, refl)
 
   pub done : (t : State) (records : Bytes) → IsStep s c (Ok (t, records)) → Replies s c (records ++ codes "ok\n") t
   done t records is = accepted t records is.0 is.1
