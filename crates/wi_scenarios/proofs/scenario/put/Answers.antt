@@ -8,6 +8,3 @@ pub returns-then-is_empty : goal.returns-then-is_empty
 returns-then-is_empty g c =
     let none : length c.args.content.now ≡ 0 = grind (arith, common_steps) in
     rw (nil_from_length c.args.content.now none) c.take_away.ensures
-
-pub returns : goal.returns
-returns g c = c.put_text.ensures
