@@ -50,7 +50,7 @@ pub use Rattle.wi_cli.specs.declared.fault.RunFault.TheVariants.{Memory, Read, S
 pub use Rattle.wi_propagate.specs.KeptSheet.{KeptSheet}
 pub use Rattle.wi_reports.specs.Inner.Shape.{has_row, entries}
 pub use Rattle.wi_scenario_list.specs.Bases.{lacks}
-pub use Rattle.wi_scenarios.proofs.CauseTests.{first_holds, one_first, refusal_for, is_misshaped}
+pub use Rattle.wi_scenarios.proofs.CauseTests.{first_holds, one_first, is_misshaped}
 pub use Rattle.wi_scenarios.proofs.ClearSteps.{clear_outside, clear_step, cleared, clear_of}
 pub use Rattle.wi_scenarios.proofs.CsvSteps.{long_lines, no_long_line}
 pub use Rattle.wi_scenarios.proofs.EditLemmas.{outside_first}

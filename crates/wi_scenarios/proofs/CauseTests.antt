@@ -1,28 +1,6 @@
 -- The answer of a command that is refused for causes which tests decide.
-use Rattle.wi_scenarios.proofs.Words.{◌≡◌, ◌↔◌, ◌∙◌, ◌<◌, ◌||◌, ◌&&◌, ℕ, nat_lt, nat_le, Bool, true, false, not, List, [], ◌∷◌, length, ◌⊎◌, inl, inr, Option, Some, None, is_some, Ok, Err, if◌then◌else◌, refl, sym, ap, subst, both_ways, ltb-true, lt-ltb, leb-true, le-leb, or_cases, or-true, Any, Any-weaker, Any-from_list_any, list_any, list_any-from_Any, bytes_eq, bytes_eq-Decides, IsImported, imported, imported_exactly, is_name_of, is_named, is_base, is_full, would_loop, chain, has_session, max_sessions, Session, Refusal, State, max_area, Kept, Command, Set, Clear, Fill, Csv, Scenario, Drop, Base, As, Table, Unknown, Unreadable, form, Cell, CornerCells, address, is_bent, is_missing, lies_outside, cells_asked, Put, Puts, Puts, Cause, BadLine, BadCommand, CutShort, Outside, TooLarge, NoScenario, InUse, TooMany, BadField, TooLong, OutOfSheet, NumberRange, TooDeep, Syntax, LeavesSheet, Stale, Loop, Full, EditLimit, Holds, stale_cell, Does, Tells, IsStep, causes, IsFirstOf, Answer, none-some, same_Some}
+use Rattle.wi_scenarios.proofs.Words.{◌≡◌, ◌↔◌, ◌∙◌, ◌<◌, ◌||◌, ◌&&◌, ℕ, nat_lt, nat_le, Bool, true, false, not, List, [], ◌∷◌, length, ◌⊎◌, inl, inr, Option, Some, None, is_some, Ok, Err, if◌then◌else◌, refl, sym, ap, subst, both_ways, ltb-true, lt-ltb, leb-true, le-leb, or_cases, or-true, Any, Any-weaker, Any-from_list_any, list_any, list_any-from_Any, bytes_eq, bytes_eq-Decides, IsImported, imported, imported_exactly, is_name_of, is_named, is_base, is_full, would_loop, chain, has_session, max_sessions, Session, Refusal, State, max_area, Kept, Command, Set, Clear, Fill, Csv, Scenario, Drop, Base, As, Table, Unknown, Unreadable, form, Cell, CornerCells, address, is_bent, is_missing, lies_outside, cells_asked, Put, Puts, Cause, BadLine, BadCommand, CutShort, Outside, TooLarge, NoScenario, InUse, TooMany, BadField, TooLong, OutOfSheet, NumberRange, TooDeep, Syntax, LeavesSheet, Stale, Loop, Full, EditLimit, Holds, stale_cell, Does, Tells, IsStep, causes, IsFirstOf, Answer, none-some, same_Some, ◌++◌}
 use Rattle.wi_scenarios.specs.declared.refusal.Refusal.TheVariants as refusal
-
--- the refusal for a cause; that for a stale cell, which names it, is no matter of tests
-abbrev pub refusal_for : Cause → Refusal
-refusal_for BadLine = refusal.BadLine
-refusal_for BadCommand = refusal.BadCommand
-refusal_for CutShort = refusal.CutShort
-refusal_for Outside = refusal.OutOfSheet
-refusal_for TooLarge = refusal.TooLarge
-refusal_for NoScenario = refusal.NoScenario
-refusal_for InUse = refusal.InUse
-refusal_for TooMany = refusal.TooMany
-refusal_for BadField = refusal.BadField
-refusal_for TooLong = refusal.TooLong
-refusal_for OutOfSheet = refusal.OutOfSheet
-refusal_for NumberRange = refusal.NumberRange
-refusal_for TooDeep = refusal.TooDeep
-refusal_for Syntax = refusal.Syntax
-refusal_for LeavesSheet = refusal.LeavesSheet
-refusal_for Stale = refusal.Memory
-refusal_for Loop = refusal.Loop
-refusal_for Full = refusal.Full
-refusal_for EditLimit = refusal.EditLimit
 
 -- the first cause whose test holds
 abbrev pub first_test : (Cause → Bool) → List Cause → Option Cause
@@ -72,6 +50,35 @@ is_among Stale = inr (inr (inr (inr (inr (inr (inr (inr (inr (inr (inr (inr (inr
 is_among Loop = inr (inr (inr (inr (inr (inr (inr (inr (inr (inr (inr (inr (inr (inr (inr (inr (inl refl))))))))))))))))
 is_among Full = inr (inr (inr (inr (inr (inr (inr (inr (inr (inr (inr (inr (inr (inr (inr (inr (inr (inl refl)))))))))))))))))
 is_among EditLimit = inr (inr (inr (inr (inr (inr (inr (inr (inr (inr (inr (inr (inr (inr (inr (inr (inr (inr (inl refl))))))))))))))))))
+
+-- ---- causes none of which holds
+
+module _ (s : State) (c : Command) where
+  abbrev pub NoneHolds : List Cause → Type 0
+  NoneHolds [] = Unit {0}
+  NoneHolds (x ∷ xs) = (Holds s x c → ⊥) × NoneHolds xs
+
+  pub both_none : (xs ys : List Cause) → NoneHolds xs → NoneHolds ys → NoneHolds (xs ++ ys)
+  both_none [] ys n m = m
+  both_none (x ∷ xs) ys n m = (n.0, both_none xs ys n.1 m)
+
+  -- what is the first behind them is the first of all
+  pub behind_none : (xs ys : List Cause) (x : Cause) → NoneHolds xs → IsFirstOf s c ys x → IsFirstOf s c (xs ++ ys) x
+  behind_none [] ys x n h = h
+  behind_none (z ∷ zs) ys x n h = inr (n.0, behind_none zs ys x n.1 h)
+
+  none_among : (xs : List Cause) → NoneHolds xs → (x : Cause) → Among xs x → Holds s x c → ⊥
+  none_among [] n x a h = a
+  none_among (y ∷ ys) n x (inl same) h = n.0 (subst (λ (z : Cause). Holds s z c) (sym same) h)
+  none_among (y ∷ ys) n x (inr a) h = none_among ys n.1 x a h
+
+  pub no_cause : NoneHolds causes → (x : Cause) → Holds s x c → ⊥
+  no_cause n x h = none_among causes n x (is_among x) h
+
+  pub first_holds : (xs : List Cause) (x : Cause) → IsFirstOf s c xs x → Holds s x c
+  first_holds [] x h = absurd h
+  first_holds (z ∷ zs) x (inl h) = subst (λ (y : Cause). Holds s y c) (sym h.1) h.0
+  first_holds (z ∷ zs) x (inr h) = first_holds zs x h.1
 
 -- ---- a command that edits nothing
 
@@ -174,17 +181,13 @@ module _ (s : State) where
   tested BadCommand (Table f r xs (Some y)) u = itself
   tested Outside c u = itself
   tested TooLarge c u = is_large _
-  tested NoScenario (Scenario name at []) u = itself
   tested NoScenario (Scenario name at (b ∷ bs)) u = never (λ h. h)
   tested NoScenario c u = itself
   tested InUse (Drop name) u = used name
-  tested TooMany (Scenario name at []) u = never (λ h. h)
   tested TooMany (Scenario name at (b ∷ bs)) u = itself
   tested TooMany (As name) u = too_many name
-  tested TooLong (Scenario name at []) u = never (λ h. h)
   tested TooLong (Scenario name at (b ∷ bs)) u = too_long (b ∷ bs)
   tested Stale c u = never (λ h. h.1 (edits_none s c u).0)
-  tested Loop (Base name None) u = never (λ h. h)
   tested Loop (Base name (Some other)) u = any_is (is_named name) (λ x. x.name ≡ name) (λ x. named_so name x.name) (chain s.scenarios (Some other))
   tested Full c u = never (λ h. (edits_none s c u).1 h.0 h.1)
   tested EditLimit c u = never (λ h. (edits_none s c u).1 h.0 h.1)
@@ -197,40 +200,39 @@ abbrev pub first_found : State → Command → Option Cause
 first_found s c = first_test (λ x. is_found s x c) causes
 
 module _ (s : State) (c : Command) (u : EditsNone c) where
-  tells : (x : Cause) → is_found s x c ≡ true → Tells s c x (refusal_for x)
-  tells Stale t = absurd (both_ways false refl t)
-  tells x t = refl
-
-  first_is : (xs : List Cause) (x : Cause) → first_test (λ y. is_found s y c) xs ≡ Some x → IsFirstOf s c xs x × (is_found s x c ≡ true)
+  first_is : (xs : List Cause) (x : Cause) → first_test (λ y. is_found s y c) xs ≡ Some x → IsFirstOf s c xs x
   first_is [] x e = absurd (none-some x e)
   first_is (y ∷ ys) x e = by (is_found s y c) refl e (λ k. first_is ys x k)
     where
       by : (b : Bool) → is_found s y c ≡ b → (if b then Some y else first_test (λ z. is_found s z c) ys) ≡ Some x
-          → (first_test (λ z. is_found s z c) ys ≡ Some x → IsFirstOf s c ys x × (is_found s x c ≡ true)) → IsFirstOf s c (y ∷ ys) x × (is_found s x c ≡ true)
-      by true t e more =
-          let same : y ≡ x = same_Some y x e in
-          (inl ((tested s y c u).0 t, sym same), subst (λ (z : Cause). is_found s z c ≡ true) same t)
-      by false t e more =
-          let p = more e in
-          (inr (λ h. both_ways _ t ((tested s y c u).1 h), p.0), p.1)
+          → (first_test (λ z. is_found s z c) ys ≡ Some x → IsFirstOf s c ys x) → IsFirstOf s c (y ∷ ys) x
+      by true t e more = inl ((tested s y c u).0 t, sym (same_Some y x e))
+      by false t e more = inr (λ h. both_ways _ t ((tested s y c u).1 h), more e)
 
-  none_is : (xs : List Cause) → first_test (λ y. is_found s y c) xs ≡ None → (x : Cause) → Among xs x → Holds s x c → ⊥
-  none_is [] e x h = absurd h
-  none_is (y ∷ ys) e x h = by (is_found s y c) refl e h (λ k i. none_is ys k x i)
+  none_is : (xs : List Cause) → first_test (λ y. is_found s y c) xs ≡ None → NoneHolds s c xs
+  none_is [] e = tt
+  none_is (y ∷ ys) e = by (is_found s y c) refl e (λ k. none_is ys k)
     where
-      by : (b : Bool) → is_found s y c ≡ b → (if b then Some y else first_test (λ z. is_found s z c) ys) ≡ None → (y ≡ x) ⊎ Among ys x
-          → (first_test (λ z. is_found s z c) ys ≡ None → Among ys x → Holds s x c → ⊥) → Holds s x c → ⊥
-      by true t e h more = absurd (none-some y (sym e))
-      by false t e (inl same) more = λ h. both_ways _ t ((tested s y c u).1 (subst (λ (z : Cause). Holds s z c) (sym same) h))
-      by false t e (inr h) more = more e h
+      by : (b : Bool) → is_found s y c ≡ b → (if b then Some y else first_test (λ z. is_found s z c) ys) ≡ None
+          → (first_test (λ z. is_found s z c) ys ≡ None → NoneHolds s c ys) → NoneHolds s c (y ∷ ys)
+      by true t e more = absurd (none-some y (sym e))
+      by false t e more = (λ h. both_ways _ t ((tested s y c u).1 h), more e)
 
-  pub refused_for : (x : Cause) → first_found s c ≡ Some x → IsStep s c (Err (refusal_for x))
-  refused_for x e =
-      let p = first_is causes x e in
-      (x, p.0, tells x p.1)
+  pub refused_for : {e : Refusal} (x : Cause) → Tells s c x e → first_found s c ≡ Some x → IsStep s c (Err e)
+  refused_for x told h = (x, first_is causes x h, told)
+
+  told : (x : Cause) → Holds s x c → (e : Refusal) × Tells s c x e
+  told Stale h = absurd (h.1 (edits_none s c u).0)
+  told x h = (_, refl)
+
+  pub refused_by : (x : Cause) → first_found s c ≡ Some x → (a : Answer) × IsStep s c a
+  refused_by x h =
+      let first = first_is causes x h in
+      let e = told x (first_holds s c causes x first) in
+      (Err e.0, (x, first, e.1))
 
   pub free : first_found s c ≡ None → (x : Cause) → Holds s x c → ⊥
-  free e x h = none_is causes e x (is_among x) h
+  free e = no_cause s c (none_is causes e)
 
   pub accepted : first_found s c ≡ None → (done : State × List ℕ) → Does s c done → IsStep s c (Ok done)
   accepted e done does = (free e, does)
@@ -238,11 +240,6 @@ module _ (s : State) (c : Command) (u : EditsNone c) where
 -- ---- the first cause that holds is one, and so a step has one answer
 
 module _ (s : State) (c : Command) where
-  pub first_holds : (xs : List Cause) (x : Cause) → IsFirstOf s c xs x → Holds s x c
-  first_holds [] x h = absurd h
-  first_holds (z ∷ zs) x (inl h) = subst (λ (y : Cause). Holds s y c) (sym h.1) h.0
-  first_holds (z ∷ zs) x (inr h) = first_holds zs x h.1
-
   pub one_first : (xs : List Cause) (x y : Cause) → IsFirstOf s c xs x → IsFirstOf s c xs y → x ≡ y
   one_first [] x y h k = absurd h
   one_first (z ∷ zs) x y (inl h) (inl k) = h.1 ∙ sym k.1
@@ -262,8 +259,8 @@ module _ (s : State) (c : Command) where
 
   pub one_answer : DoesOne → (a b : Answer) → IsStep s c a → IsStep s c b → a ≡ b
   one_answer one (Ok x) (Ok y) h k = ap (λ (z : State × List ℕ). let a : Answer = Ok z in a) (one x y h.1 k.1)
-  one_answer one (Ok x) (Err e) h k = absurd (h.0 k.0 (first_holds causes k.0 k.1))
-  one_answer one (Err d) (Ok y) h k = absurd (k.0 h.0 (first_holds causes h.0 h.1))
+  one_answer one (Ok x) (Err e) h k = absurd (h.0 k.0 (first_holds s c causes k.0 k.1))
+  one_answer one (Err d) (Ok y) h k = absurd (k.0 h.0 (first_holds s c causes h.0 h.1))
   one_answer one (Err d) (Err e) h k =
       let same : k.0 ≡ h.0 = one_first causes k.0 h.0 k.1 h.1 in
       ap (λ (r : Refusal). let a : Answer = Err r in a) (one_told h.0 d e h.2 (subst (λ (x : Cause). Tells s c x e) same k.2))

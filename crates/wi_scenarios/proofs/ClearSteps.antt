@@ -1,7 +1,8 @@
 -- The command `clear`: its step, by what its body finds, and what a call leaves.
-use Rattle.wi_scenarios.proofs.Words.{◌≡◌, ◌∙◌, Bool, true, false, ◌||◌, List, [], ◌∷◌, map, filter, ◌⊎◌, inl, inr, None, Err, if◌then◌else◌, refl, sym, ap, subst, list_any, or-false, keys_of, both_ways, Area, is_within, State, Answer, edit_answer, Sheet, Edit, occupied_in, Command, Clear, form, CornerCells, is_outside, area, corners, Put, after_edit, Cause, Outside, TooLarge, NoScenario, Stale, Full, EditLimit, Holds, lies_outside, is_missing, Does, IsStep, causes, IsFirstOf, ℕ, IsSpanned, Option, Result, Content, Refusal, Serves, IsErrAnd, Memory}
+use Rattle.wi_scenarios.proofs.Words.{◌≡◌, ◌∙◌, Bool, true, false, ◌||◌, List, [], ◌∷◌, map, filter, None, Err, if◌then◌else◌, refl, sym, ap, subst, list_any, or-false, keys_of, both_ways, Area, is_within, State, Answer, edit_answer, Sheet, Edit, occupied_in, Command, Clear, form, CornerCells, is_outside, area, corners, Put, lies_outside, is_missing, IsStep, ℕ, IsSpanned, Option, Result, Content, Refusal, Serves, IsErrAnd, Memory}
 use Rattle.wi_scenarios.specs.declared.refusal.Refusal.TheVariants as refusal
-use Rattle.wi_scenarios.proofs.EditLemmas.{outside_first, last, edit_step, same_edit, edit_serves, edit_lacks}
+use Rattle.wi_scenarios.proofs.CauseTests.{NoneHolds}
+use Rattle.wi_scenarios.proofs.EditLemmas.{outside_first, front, edit_step, same_edit, edit_serves, edit_lacks, none_forced}
 
 -- each occupied cell of the rectangle gets no content
 abbrev pub clear_edit : Sheet → Area → Edit
@@ -23,31 +24,13 @@ module _ (s : State) (force : Bool) (r : CornerCells) where
   abbrev puts : List Put
   puts = map (λ a. (a, None)) (filter (is_within (area r)) (keys_of s.stored.sheet))
 
-  none_missing : (f : Bool) → list_any (is_missing s) (form (Clear f r)) ≡ false
-  none_missing true = refl
-  none_missing false = refl
-
-  pub one_done : (x y : State × List ℕ) → Does s clear x → Does s clear y → x ≡ y
-  one_done x y h k =
-      let same : h.0 ≡ k.0 = h.1 ∙ sym k.1 in
-      h.2 ∙ ap (λ (q : List Put). let d : State × List ℕ = (after_edit s clear q, []) in d) same ∙ sym k.2
-
   module _ (inside : (is_outside r.0 || is_outside r.1) ≡ false) where
-    front : (x : Cause) → IsFirstOf s clear last x → IsFirstOf s clear causes x
-    front x h =
-        inr (λ k. k, inr (λ k. k, inr (λ k. k, inr (λ k. both_ways _ (clear_outside force false r inside) k, inr (λ k. k, inr (λ k. both_ways _ (none_missing force) k, inr (λ k. k, inr (λ k. k, inr (λ k. k, inr (λ k. k, inr (λ k. k, inr (λ k. k, inr (λ k. k, inr (λ k. k, inr (λ k. k, h)))))))))))))))
-
-    only : (x : Cause) → Holds s x clear → Holds s Stale clear ⊎ (Holds s Full clear ⊎ Holds s EditLimit clear)
-    only Outside h = absurd (both_ways _ (clear_outside force false r inside) h)
-    only TooLarge h = absurd h
-    only NoScenario h = absurd (both_ways _ (none_missing force) h)
-    only Stale h = inl h
-    only Full h = inr (inl h)
-    only EditLimit h = inr (inr h)
-    only x h = absurd h
+    no_other : NoneHolds s clear front
+    no_other =
+        (λ k. k, (λ k. k, (λ k. k, (λ k. both_ways _ (clear_outside force false r inside) k, (λ k. k, (none_forced (is_missing s) force _ refl refl, (λ k. k, (λ k. k, (λ k. k, (λ k. k, (λ k. k, (λ k. k, (λ k. k, (λ k. k, (λ k. k, tt)))))))))))))))
 
     clearing : IsStep s clear (cleared s force (area r))
-    clearing = edit_step s clear force (area r ∷ []) puts refl (λ q h. h) refl refl (λ h. h) front only (λ d h. h)
+    clearing = edit_step s clear force (area r ∷ []) puts refl (λ p q h k. h ∙ sym k) refl refl (λ h. h) no_other (λ d h. h)
 
   pub clear_step : (out : Bool) → (is_outside r.0 || is_outside r.1) ≡ out → IsStep s clear (if out then Err refusal.OutOfSheet else cleared s force (area r))
   clear_step true o = outside_first s clear (λ h. h) (λ h. h) (λ h. h) (clear_outside force true r o)

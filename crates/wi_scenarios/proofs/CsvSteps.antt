@@ -1,10 +1,11 @@
 -- The command `csv`: its step, by what its body finds, and what a call leaves.
-use Rattle.wi_scenarios.proofs.Words.{◌≡◌, ◌∙◌, ◌<◌, ◌≤◌, ℕ, Bool, true, false, ◌==◌, List, [], ◌∷◌, length, ◌⊎◌, inl, inr, Option, Some, Ok, Err, Result, if◌then◌else◌, refl, sym, ap, subst, arith, list_any, or-false, Any, both_ways, Area, Content, ImportFault, Field, fields_at, record_areas_at, AreChanges, IsFault, no_other, one_list, State, max_area, Answer, import_refusal, edit_answer, ◌-◌, None, nat_lt, nat_tests, some_import, Command, Csv, form, Cell, is_outside, cell, Put, Puts, fields, named, after_edit, Cause, BadLine, BadCommand, CutShort, Outside, TooLarge, NoScenario, BadField, TooLong, OutOfSheet, NumberRange, TooDeep, Syntax, LeavesSheet, Stale, Full, EditLimit, Holds, lies_outside, is_missing, cells_asked, Does, IsStep, causes, IsFirstOf, All, IsUtf8, IsImported, IsInside, bad_field, too_long, out_of_sheet, max_line, without_lf, IsImportStep, ◌≢◌, map, AllZip, keys_of, IsErrAnd, err_from_is_err_and, field_cell, IsChange, Refusal, Memory, MayRefuse, Serves, MayRefuseData, ServesData, imported_cells, IsPlaced, ◌↔◌, ltb-true, lt-ltb}
+use Rattle.wi_scenarios.proofs.Words.{◌≡◌, ◌∙◌, ◌<◌, ◌≤◌, ℕ, Bool, true, false, ◌==◌, List, [], ◌∷◌, length, inl, inr, Option, Some, Ok, Err, Result, if◌then◌else◌, refl, sym, ap, subst, arith, list_any, or-false, Any, both_ways, Area, Content, ImportFault, Field, fields_at, record_areas_at, AreChanges, IsFault, no_other, one_list, State, max_area, Answer, import_refusal, edit_answer, ◌-◌, None, nat_lt, nat_tests, some_import, Command, Csv, form, Cell, is_outside, cell, Put, fields, named, Cause, BadLine, BadCommand, CutShort, BadField, TooLong, OutOfSheet, Holds, lies_outside, is_missing, IsStep, causes, IsFirstOf, All, IsUtf8, IsImported, IsInside, bad_field, too_long, out_of_sheet, max_line, without_lf, IsImportStep, ◌≢◌, map, AllZip, keys_of, IsErrAnd, field_cell, IsChange, Refusal, Memory, MayRefuse, Serves, MayRefuseData, ServesData, imported_cells, IsPlaced, ◌↔◌, ltb-true, lt-ltb, ◌++◌, take, drop}
 use Rattle.wi_import.specs.Imports.{IsImport}
 use Rattle.wi_import.specs.declared.fault.ImportFault.TheVariants as import
 use Rattle.wi_scenarios.specs.declared.refusal.Refusal.TheVariants as refusal
-use Rattle.wi_scenarios.proofs.CauseTests.{any_is}
-use Rattle.wi_scenarios.proofs.EditLemmas.{outside_first, last, edit_step}
+use Rattle.wi_scenarios.proofs.CallLemmas.{ends_so}
+use Rattle.wi_scenarios.proofs.CauseTests.{any_is, NoneHolds, both_none, behind_none}
+use Rattle.wi_scenarios.proofs.EditLemmas.{outside_first, last, edit_step, front, none_forced, few_forced}
 
 -- what an import comes to: what cells get, or a fault
 abbrev pub ImportOutcome : Type 0
@@ -27,9 +28,6 @@ no_long lines h k =
     let above : max_line < length (without_lf k.1) = k.4 in
     omega (arith, within, above)
 
-all_come : (n m : ℕ) → n ≤ m → m < n → ⊥
-all_come n m h k = omega (arith, h, k)
-
 -- ---- the step
 
 module _ (s : State) (force : Bool) (c : Cell) (n : ℕ) (lines : List (List ℕ)) where
@@ -40,30 +38,20 @@ module _ (s : State) (force : Bool) (c : Cell) (n : ℕ) (lines : List (List ℕ
   outside_is true = or-false (is_outside c)
   outside_is false = or-false (is_outside c)
 
-  small : (b : Bool) → max_area < cells_asked (form (Csv b (Some c) n lines)) → ⊥
-  small true h = omega (arith, h)
-  small false h = omega (arith, h)
-
-  none_missing : (b : Bool) → list_any (is_missing s) (form (Csv b (Some c) n lines)) ≡ false
-  none_missing true = refl
-  none_missing false = refl
-
-  pub one_done : (x y : State × List ℕ) → Does s csv x → Does s csv y → x ≡ y
-  one_done x y h k =
-      let puts : h.0 ≡ k.0 = one_list (fields c lines) h.0 k.0 h.1 k.1 in
-      h.2 ∙ ap (λ (q : List Put). let d : State × List ℕ = (after_edit s csv q, []) in d) puts ∙ sym k.2
+  few : 1 ≤ max_area
+  few = omega arith
 
   module _ (short : Holds s BadLine csv → ⊥) (come : Holds s CutShort csv → ⊥) where
     csv_out : is_outside c ≡ true → IsStep s csv (Err refusal.OutOfSheet)
     csv_out o = outside_first s csv short (λ k. k) come (outside_is force ∙ o)
 
     module _ (o : is_outside c ≡ false) where
-      abbrev behind : List Cause
-      behind = BadField ∷ TooLong ∷ OutOfSheet ∷ NumberRange ∷ TooDeep ∷ Syntax ∷ LeavesSheet ∷ last
+      none_first : NoneHolds s csv (take 8 front)
+      none_first =
+          (short, (λ k. k, (come, (λ k. both_ways _ (outside_is force ∙ o) k, (few_forced force _ few, (none_forced (is_missing s) force _ refl refl, (λ k. k, (λ k. k, tt))))))))
 
-      front : (x : Cause) → IsFirstOf s csv behind x → IsFirstOf s csv causes x
-      front x h =
-          inr (short, inr (λ k. k, inr (come, inr (λ k. both_ways _ (outside_is force ∙ o) k, inr (small force, inr (λ k. both_ways _ (none_missing force) k, inr (λ k. k, inr (λ k. k, h))))))))
+      in_front : (x : Cause) → IsFirstOf s csv (drop 8 front ++ last) x → IsFirstOf s csv causes x
+      in_front x h = behind_none s csv (take 8 front) (drop 8 front ++ last) x none_first h
 
       module _ (puts : List Put) (are : AreChanges (fields c lines) puts) where
         other : (e : ImportFault) → IsFault (fields c lines) e → ⊥
@@ -80,34 +68,17 @@ module _ (s : State) (force : Bool) (c : Cell) (n : ℕ) (lines : List (List ℕ
         no_outside : Any (λ f. IsInside f → ⊥) (fields c lines) → ⊥
         no_outside h = all_any IsInside (fields c lines) are.inside h
 
-        one_put : (q : List Put) → Puts s csv q → q ≡ puts
-        one_put q h = one_list (fields c lines) q puts h are.each
-
-        later : (x : Cause) → IsFirstOf s csv last x → IsFirstOf s csv causes x
-        later x h = front x (inr (no_bad, inr (none_too_long, inr (no_outside, inr (λ k. k, inr (λ k. k, inr (λ k. k, inr (λ k. k, h))))))))
-
-        only : (x : Cause) → Holds s x csv → Holds s Stale csv ⊎ (Holds s Full csv ⊎ Holds s EditLimit csv)
-        only BadLine h = absurd (short h)
-        only CutShort h = absurd (come h)
-        only Outside h = absurd (both_ways _ (outside_is force ∙ o) h)
-        only TooLarge h = absurd (small force h)
-        only NoScenario h = absurd (both_ways _ (none_missing force) h)
-        only BadField h = absurd (no_bad h)
-        only TooLong h = absurd (none_too_long h)
-        only OutOfSheet h = absurd (no_outside h)
-        only Stale h = inl h
-        only Full h = inr (inl h)
-        only EditLimit h = inr (inr h)
-        only x h = absurd h
+        no_fault : NoneHolds s csv (drop 8 front)
+        no_fault = (no_bad, (none_too_long, (no_outside, (λ k. k, (λ k. k, (λ k. k, (λ k. k, tt)))))))
 
         importing : IsStep s csv (edit_answer s force (record { named = named csv; contents = puts }))
-        importing = edit_step s csv force (named csv) puts are.each one_put refl refl (λ h. h) later only (λ d h. h)
+        importing = edit_step s csv force (named csv) puts are.each (one_list (fields c lines)) refl refl (λ h. h) (both_none s csv (take 8 front) (drop 8 front) none_first no_fault) (λ d h. h)
 
       fault_is : (e : ImportFault) → IsFault (fields c lines) e → IsStep s csv (csv_answer s force (named csv) (Err e))
-      fault_is e (bad_field fs h) = (BadField, front BadField (inl (h, refl)), refl)
-      fault_is e (too_long fs texts h) = (TooLong, front TooLong (inr (all_any (λ (f : Field). IsUtf8 f.bytes) fs texts, inl (h, refl))), refl)
+      fault_is e (bad_field fs h) = (BadField, in_front BadField (inl (h, refl)), refl)
+      fault_is e (too_long fs texts h) = (TooLong, in_front TooLong (inr (all_any (λ (f : Field). IsUtf8 f.bytes) fs texts, inl (h, refl))), refl)
       fault_is e (out_of_sheet fs texts none h) =
-          (OutOfSheet, front OutOfSheet (inr (all_any (λ (f : Field). IsUtf8 f.bytes) fs texts, inr (none_long none, inl (h, refl)))), refl)
+          (OutOfSheet, in_front OutOfSheet (inr (all_any (λ (f : Field). IsUtf8 f.bytes) fs texts, inr (none_long none, inl (h, refl)))), refl)
         where
           none_long : All (λ f. IsImported f.bytes None → ⊥) (fields c lines) → Any (λ f. IsImported f.bytes None) (fields c lines) → ⊥
           none_long none k = none k.0 k.1 k.2 (subst (λ (f : Field). IsImported f.bytes None) (sym k.3) k.4)
@@ -162,9 +133,7 @@ pub csv_of : (s : State) (force : Bool) (at : ℕ) (text : List ℕ) (out : Bool
     → IsImportStep s force at text (if out then Err refusal.OutOfSheet else csv_answer s force (record_areas_at at text) r)
 csv_of s force at text out o r is n lines are =
     subst (λ (t : List ℕ). IsStep s (Csv force (Some (cell at)) n lines) (if out then Err refusal.OutOfSheet else csv_answer s force (record_areas_at at t) r)) are.joined
-    (csv_step s force (cell at) n lines (no_long lines are.short) (all_come n (length lines) are.come) out o r (subst (λ (t : List ℕ). IsImport (fields_at at t) r) (sym are.joined) is))
-
--- ---- what `csv` answers
+    (csv_step s force (cell at) n lines (no_long lines are.short) (λ k. omega (arith, are.come, k)) out o r (subst (λ (t : List ℕ). IsImport (fields_at at t) r) (sym are.joined) is))
 
 -- ---- an import that is refused
 
@@ -178,9 +147,7 @@ faulted s force at text import.Memory placed h = tt
 pub csv_refused : (r : Result (Unit {0}) Refusal) (s : State) (force : Bool) (at : ℕ) (text : List ℕ) (fault : ImportFault) → IsPlaced at → IsErrAnd r (λ e. e ≡ import_refusal fault) →
     (fault ≢ import.Memory → IsFault (fields_at at text) fault) → ServesData (IsImportStep s force at text) r s s
 csv_refused r s force at text fault placed k h =
-    let p = err_from_is_err_and r k in
-    subst (λ (x : Result (Unit {0}) Refusal). ServesData (IsImportStep s force at text) x s s) (sym p.1)
-    (subst (λ (e : Refusal). MayRefuseData e (IsImportStep s force at text)) (sym p.2) (faulted s force at text fault placed h), refl)
+    ends_so (λ (x : Result (Unit {0}) Refusal). ServesData (IsImportStep s force at text) x s s) (import_refusal fault) r k (faulted s force at text fault placed h, refl)
 
 -- ---- an import that is made
 

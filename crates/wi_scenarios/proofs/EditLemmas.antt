@@ -1,28 +1,42 @@
 -- The end of the step of an edit, and what it leaves: stale cells, the limits of the sheet, the edit.
-use Rattle.wi_scenarios.proofs.Words.{◌≡◌, ◌<◌, ◌≤◌, ℕ, Bool, true, false, nat_lt, nat_le, List, [], ◌∷◌, length, ◌⊎◌, inl, inr, Option, Some, None, Ok, Err, refl, sym, subst, arith, nat_tests, leb-true, ltb-true, Area, State, Answer, edit_answer, stale_in, Command, Put, Puts, is_forced, named, sheet_with, after_edit, Cause, BadLine, BadCommand, CutShort, Outside, Stale, Loop, Full, EditLimit, Holds, stale_cell, Does, IsStep, causes, IsFirstOf, accepted, ◌==◌, zero, suc, not, ◌&&◌, ◌||◌, ◌++◌, map, ⊎_elim, Result, ap, ◌∙◌, slice_index_or, IfOk, IsErrAnd, err_from_is_err_and, keys_of, cases_lt, false_from_ne_true, false≢true, or_left, or_right, or_parts, or_cases, length-keys_of, Replacement, Content, Sheet, StoreFault, Stored, edited, change_without_empty, applied, shown, IsMarking, same_off_edited, accepted_is, Entry, Kept, effective, value_in, sheet_size, is_one_of, Session, new_session, Roster, pending_of, vacant_of, is_pending_for_all, all_have_so, one_of_all_has, Refusal, Memory, Desk, may_grow, MayRefuse, Serves, Edit, limit_of, with_stored, is_pending, AddsOnly, state_of, AreCovered, IsClosed, AreClosed, IsSound, AreMarked, HasRooms, SameBeside, MayFail, Commits, is_itself, answer_by}
+use Rattle.wi_scenarios.proofs.Words.{◌≡◌, ◌<◌, ◌≤◌, ℕ, Bool, true, false, nat_lt, nat_le, List, [], ◌∷◌, length, ◌⊎◌, inl, inr, Option, Some, None, Ok, Err, refl, sym, subst, arith, leb-true, ltb-true, Area, State, Answer, edit_answer, stale_in, Command, Put, Puts, is_forced, named, sheet_with, after_edit, Cause, BadLine, BadCommand, CutShort, Outside, Stale, Loop, Full, EditLimit, Holds, stale_cell, Does, IsStep, causes, IsFirstOf, accepted, not, ◌&&◌, ◌||◌, ◌++◌, map, ⊎_elim, Result, ap, ◌∙◌, slice_index_or, IfOk, IsErrAnd, keys_of, cases_lt, false_from_ne_true, false≢true, or_left, or_right, or_parts, or_cases, length-keys_of, Replacement, Content, Sheet, StoreFault, Stored, edited, change_without_empty, applied, shown, IsMarking, same_off_edited, accepted_is, Entry, Kept, effective, value_in, sheet_size, is_one_of, Session, new_session, Roster, pending_of, vacant_of, is_pending_for_all, all_have_so, one_of_all_has, Refusal, Memory, Desk, may_grow, MayRefuse, Serves, Edit, limit_of, with_stored, is_pending, AddsOnly, state_of, AreCovered, IsClosed, AreClosed, IsSound, AreMarked, HasRooms, SameBeside, MayFail, Commits, answer_by, none-some, both_ways, lt-ltb, le-leb, has_at, TooLarge, NoScenario, InUse, TooMany, BadField, TooLong, OutOfSheet, NumberRange, TooDeep, Syntax, LeavesSheet, Operand, WORD, may_force, list_any, cells_asked, codes, max_area}
 use Rattle.wi_scenarios.specs.declared.refusal.Refusal.TheVariants as refusal
 use Rattle.wi_store.specs.declared.fault.StoreFault.TheVariants as store
-use Rattle.wi_scenarios.proofs.CallLemmas.{serves_as}
+use Rattle.wi_scenarios.proofs.CallLemmas.{serves_as, lacked}
+use Rattle.wi_scenarios.proofs.CauseTests.{NoneHolds, behind_none, both_none, no_cause}
 
 -- an operand lies outside, and no cause holds that is answered before
 pub outside_first : (s : State) (c : Command) → (Holds s BadLine c → ⊥) → (Holds s BadCommand c → ⊥) → (Holds s CutShort c → ⊥) → Holds s Outside c → IsStep s c (Err refusal.OutOfSheet)
 outside_first s c line command come outside = (Outside, inr (line, inr (command, inr (come, inl (outside, refl)))), refl)
 
--- the last causes of the order
+-- an edit may be forced: its form has a word more, which is no operand
+pub none_forced : (p : Operand → Bool) (force : Bool) (os : List Operand) → p (WORD (codes "force")) ≡ false → list_any p os ≡ false → list_any p (may_force force os) ≡ true → ⊥
+none_forced p true os e f h = both_ways _ f (ap (λ (b : Bool). b || list_any p os) (sym e) ∙ h)
+none_forced p false os e f h = both_ways _ f h
+
+pub few_forced : (force : Bool) (os : List Operand) → cells_asked os ≤ max_area → max_area < cells_asked (may_force force os) → ⊥
+few_forced true os e h = omega (arith, e, h)
+few_forced false os e h = omega (arith, e, h)
+
+-- the causes of the order in front of that of a stale cell, and from it on
+abbrev pub front : List Cause
+front =
+    BadLine ∷ BadCommand ∷ CutShort ∷ Outside ∷ TooLarge ∷ NoScenario ∷ InUse ∷ TooMany ∷ BadField ∷ TooLong ∷ OutOfSheet ∷ NumberRange ∷ TooDeep ∷ Syntax ∷ LeavesSheet ∷ []
+
 abbrev pub last : List Cause
 last = Stale ∷ Loop ∷ Full ∷ EditLimit ∷ []
 
-not_above : (n m : ℕ) → nat_lt n m ≡ false → n < m → ⊥
-not_above n m e h = grind (arith, nat_tests)
+-- what an edit does that is accepted; with one list of contents it does one thing
+abbrev pub DoesEdit : State → Command → State × List ℕ → Type 0
+DoesEdit s c done = (puts : List Put) × Puts s c puts × (done ≡ (after_edit s c puts, []))
 
-not_least : (n m : ℕ) → nat_le n m ≡ false → n ≤ m → ⊥
-not_least n m e h = grind (arith, nat_tests)
+pub one_edit : (s : State) (c : Command) → ((p q : List Put) → Puts s c p → Puts s c q → p ≡ q) → (x y : State × List ℕ) → DoesEdit s c x → DoesEdit s c y → x ≡ y
+one_edit s c one x y h k =
+    h.2 ∙ ap (λ (q : List Put). let d : State × List ℕ = (after_edit s c q, []) in d) (one h.0 k.0 h.1 k.1) ∙ sym k.2
 
-module _ (s : State) (c : Command) (force : Bool) (areas : List Area) (puts : List Put) (is : Puts s c puts) (one : (q : List Put) → Puts s c q → q ≡ puts)
-    (forced : is_forced c ≡ force) (names : named c ≡ areas) (no_loop : Holds s Loop c → ⊥)
-    (front : (x : Cause) → IsFirstOf s c last x → IsFirstOf s c causes x)
-    (only : (x : Cause) → Holds s x c → Holds s Stale c ⊎ (Holds s Full c ⊎ Holds s EditLimit c))
-    (does : (done : State × List ℕ) → (q : List Put) × Puts s c q × (done ≡ (after_edit s c q, [])) → Does s c done) where
+module _ (s : State) (c : Command) (force : Bool) (areas : List Area) (puts : List Put) (is : Puts s c puts) (one : (p q : List Put) → Puts s c p → Puts s c q → p ≡ q)
+    (forced : is_forced c ≡ force) (names : named c ≡ areas) (no_loop : Holds s Loop c → ⊥) (no_other : NoneHolds s c front)
+    (does : (done : State × List ℕ) → DoesEdit s c done → Does s c done) where
   stale_some : (at : ℕ) → stale_in s force areas ≡ Some at → Holds s Stale c × (stale_cell s c ≡ Some at)
   stale_some at h = by force forced h
     where
@@ -30,32 +44,20 @@ module _ (s : State) (c : Command) (force : Bool) (areas : List Area) (puts : Li
       by true e h = cc
       by false e h =
           let found : stale_cell s c ≡ Some at = rw names h in
-          ((e, λ k. none (stale_cell s c) found k), found)
-        where
-          none : (o : Option ℕ) → o ≡ Some at → o ≡ None → ⊥
-          none o h k = cc
+          ((e, λ k. none-some at (sym k ∙ found)), found)
 
   fresh : stale_in s force areas ≡ None → Holds s Stale c → ⊥
   fresh h k = by force forced h
     where
       by : (b : Bool) → is_forced c ≡ b → stale_in s b areas ≡ None → ⊥
-      by true e h = differ (is_forced c) e k.0
-        where
-          differ : (b : Bool) → b ≡ true → b ≡ false → ⊥
-          differ b h k = cc
+      by true e h = both_ways _ k.0 e
       by false e h = k.1 (rw names h)
 
-  full : nat_lt s.stored.limits.cells (length (sheet_with s puts)) ≡ true → Holds s Full c
-  full e = (puts, is, ltb-true _ _ e)
-
   not_full : nat_lt s.stored.limits.cells (length (sheet_with s puts)) ≡ false → Holds s Full c → ⊥
-  not_full e h = not_above _ _ e (subst (λ (q : List Put). s.stored.limits.cells < length (sheet_with s q)) (one h.0 h.1) h.2)
-
-  limited : nat_le s.stored.limits.edits s.stored.edits ≡ true → Holds s EditLimit c
-  limited e = (puts, is, leb-true _ _ e)
+  not_full e h = both_ways _ e (lt-ltb _ _ (subst (λ (q : List Put). s.stored.limits.cells < length (sheet_with s q)) (one h.0 puts h.1 is) h.2))
 
   not_limited : nat_le s.stored.limits.edits s.stored.edits ≡ false → Holds s EditLimit c → ⊥
-  not_limited e h = not_least _ _ e h.2
+  not_limited e h = both_ways _ e (le-leb _ _ h.2)
 
   abbrev answer_of : Option ℕ → Bool → Bool → Answer
   answer_of (Some at) full limit = Err (refusal.Stale at)
@@ -63,22 +65,18 @@ module _ (s : State) (c : Command) (force : Bool) (areas : List Area) (puts : Li
   answer_of None false true = Err refusal.EditLimit
   answer_of None false false = Ok (after_edit s c puts, [])
 
+  in_front : (x : Cause) → IsFirstOf s c last x → IsFirstOf s c causes x
+  in_front x h = behind_none s c front last x no_other h
+
   now : (o : Option ℕ) (f l : Bool) → stale_in s force areas ≡ o → nat_lt s.stored.limits.cells (length (sheet_with s puts)) ≡ f
       → nat_le s.stored.limits.edits s.stored.edits ≡ l → IsStep s c (answer_of o f l)
   now (Some at) f l eo ef el =
       let h = stale_some at eo in
-      (Stale, front Stale (inl (h.0, refl)), (at, h.1, refl))
-  now None true l eo ef el = (Full, front Full (inr (fresh eo, inr (no_loop, inl (full ef, refl)))), refl)
-  now None false true eo ef el = (EditLimit, front EditLimit (inr (fresh eo, inr (no_loop, inr (not_full ef, inl (limited el, refl))))), refl)
-  now None false false eo ef el = (none, does _ (puts, is, refl))
-    where
-      none : (x : Cause) → Holds s x c → ⊥
-      none x h = by (only x h)
-        where
-          by : Holds s Stale c ⊎ (Holds s Full c ⊎ Holds s EditLimit c) → ⊥
-          by (inl k) = fresh eo k
-          by (inr (inl k)) = not_full ef k
-          by (inr (inr k)) = not_limited el k
+      (Stale, in_front Stale (inl (h.0, refl)), (at, h.1, refl))
+  now None true l eo ef el = (Full, in_front Full (inr (fresh eo, inr (no_loop, inl ((puts, is, ltb-true _ _ ef), refl)))), refl)
+  now None false true eo ef el = (EditLimit, in_front EditLimit (inr (fresh eo, inr (no_loop, inr (not_full ef, inl ((puts, is, leb-true _ _ el), refl))))), refl)
+  now None false false eo ef el =
+      (no_cause s c (both_none s c front last no_other (fresh eo, (no_loop, (not_full ef, (not_limited el, tt))))), does _ (puts, is, refl))
 
   before : (o : Option ℕ) (f l : Bool) → stale_in s force areas ≡ o → nat_lt s.stored.limits.cells (length (sheet_with s puts)) ≡ f
       → nat_le s.stored.limits.edits s.stored.edits ≡ l → edit_answer s force (record { named = areas; contents = puts }) ≡ answer_of o f l
@@ -137,10 +135,7 @@ may_fail s force e refusal fresh h = edit_fresh s force e fresh ∙ fresh_limit 
 -- memory ran out on the way
 pub edit_lacks : (r : Result (Unit {0}) Refusal) (s : State) (force : Bool) (e : Edit) → IsErrAnd r (λ x. x ≡ Memory) → Serves (λ a. edit_answer s force e ≡ a) r s s []
 edit_lacks r s force e k =
-    let p = err_from_is_err_and r k in
-    let same : r ≡ Err Memory = p.1 ∙ ap (λ (x : Refusal). let y : Result (Unit {0}) Refusal = Err x in y) p.2 in
-    subst (λ (x : Result (Unit {0}) Refusal). Serves (λ a. edit_answer s force e ≡ a) x s s []) (sym same)
-    (record { answer = edit_answer s force e; is_answer = refl; grows = edit_grows s force e }, refl, refl)
+    lacked (λ a. edit_answer s force e ≡ a) (edit_answer s force e) r s s refl (edit_grows s force e) k refl
 
 made : (s : State) (stored : Stored) (named : List Area) (scenarios : List Kept) (sessions : List Session) (current : ℕ) (log : List Entry) →
     scenarios ≡ s.scenarios → sessions ≡ s.sessions → current ≡ s.current → log ≡ s.log ++ record { session = s.current; areas = named } ∷ [] →
@@ -193,12 +188,6 @@ some_marked marked sheet test contents cells found l e m o = record {
     same : (a : ℕ) → marked sheet cells a ≡ marked sheet (keys_of contents) a
     same a = ap (λ (xs : List ℕ). marked sheet xs a) e
 
-pub is_none : (b : Bool) (n : ℕ) → b ≡ (n == 0) → b ≡ true → n ≡ 0
-is_none b n e h = grind (arith, nat_tests)
-
-pub is_one : (b : Bool) (n : ℕ) → b ≡ (n == 0) → b ≡ false → 0 < n
-is_one b n e h = grind (arith, nat_tests)
-
 pub marked_as : (marked : Sheet → List ℕ → ℕ → Bool) (sheet : Sheet) (test : ℕ → Bool) (contents changes : List (ℕ × Option Content)) (found cells : List ℕ) → changes ≡ contents → cells ≡ found →
     AreMarked marked sheet test changes found → AreMarked marked sheet test contents cells
 marked_as marked sheet test contents changes found cells c f h =
@@ -245,15 +234,6 @@ not_found v false p e k h = refl
 is_found : (v f p : Bool) → v ≡ (f && not p) → v ≡ true → f ≡ true
 is_found v true p e h = refl
 is_found v false p e h = sym e ∙ h
-
-listed_at : (xs : List ℕ) (k d : ℕ) → k < length xs → is_one_of xs (slice_index_or xs k d) ≡ true
-listed_at [] k d l = absurd (omega (arith, l))
-listed_at (x ∷ xs) zero d l = ap (λ (b : Bool). b || is_one_of xs x) (is_itself x)
-listed_at (x ∷ xs) (suc k) d l = by (x == slice_index_or xs k d) (listed_at xs k d (omega (arith, l)))
-  where
-    by : (b : Bool) → is_one_of xs (slice_index_or xs k d) ≡ true → (b || is_one_of xs (slice_index_or xs k d)) ≡ true
-    by true h = refl
-    by false h = h
 
 -- an edit of no cell leaves the sheet as it is
 stays : (s : Sheet) (contents : List (ℕ × Option Content)) → length contents ≡ 0 → edited s (map change_without_empty contents) ≡ s
@@ -382,5 +362,5 @@ module _ (marked : Sheet → List ℕ → ℕ → Bool) (law : IsMarking marked)
     adds_taken i a l h =
         ⊎_elim (λ (p : is_one_of (pending_of d.sessions i) a ≡ true). inl p)
         (λ (f : is_one_of found a ≡ true). let o = are.only a f in
-        inr (record { cells = keys_of contents; some = omega (arith, o.0, length-keys_of contents); touched = λ k e m. inl (listed_at (keys_of contents) k e m); has = o.1 }))
+        inr (record { cells = keys_of contents; some = omega (arith, o.0, length-keys_of contents); touched = λ k e m. inl (has_at (keys_of contents) k _ e m refl); has = o.1 }))
         (was_or_found i a l h)

@@ -1,10 +1,12 @@
 -- The command `fill`: its step, by what its body finds, and what a call leaves.
-use Rattle.wi_scenarios.proofs.Words.{◌≡◌, ◌∙◌, ◌<◌, ◌*◌, ℕ, Bool, true, false, not, ◌||◌, nat_lt, List, [], ◌∷◌, map, ◌⊎◌, inl, inr, Option, Some, None, is_some, Err, if◌then◌else◌, refl, sym, ap, subst, arith, list_any, or-false, AllZip, both_ways, Area, size_of, cells_of, Content, content_of, State, max_area, Answer, Edit, edit_answer, copy_to, has_no_copy, or_nothing, Sheet, Command, Fill, form, Cell, CornerCells, is_outside, address, area, cell, corners, Put, Puts, copy_in, after_edit, Cause, Outside, TooLarge, NoScenario, LeavesSheet, Stale, Full, EditLimit, Holds, lies_outside, is_missing, cells_asked, Does, IsStep, causes, IsFirstOf, ap₂, IsPlaced, IsSpanned, ◌+◌, ◌++◌, Result, ◌≤◌, append_assoc, keys_of, flat_map, range_with_len, map-append, map-range_with_len_more, list_any-append, any_in_range, place, cells_of_row, IsErrAnd, err_from_is_err_and, Refusal, may_grow, MayRefuse, Serves, shift_refusal, ShiftFault, AreCopies, CopiesAs, HasNoCopies, cells_in, ℤ, option_map, ShiftsTo, shifted, Tree, copied, MayGrow, same_Some, ◌↔◌}
+use Rattle.wi_scenarios.proofs.Words.{◌≡◌, ◌∙◌, ◌<◌, ℕ, Bool, true, false, not, ◌||◌, nat_lt, List, [], ◌∷◌, map, inl, inr, Option, Some, None, is_some, Err, if◌then◌else◌, refl, sym, ap, subst, list_any, or-false, AllZip, both_ways, Area, size_of, cells_of, Content, content_of, State, max_area, Answer, Edit, edit_answer, copy_to, has_no_copy, or_nothing, Sheet, Command, Fill, form, Cell, CornerCells, is_outside, address, area, cell, corners, Put, Puts, copy_in, Outside, TooLarge, LeavesSheet, Holds, lies_outside, is_missing, cells_asked, IsStep, ap₂, IsPlaced, IsSpanned, ◌+◌, ◌++◌, Result, ◌≤◌, append_assoc, keys_of, flat_map, range_with_len, map-append, map-range_with_len_more, list_any-append, any_in_range, place, cells_of_row, IsErrAnd, Refusal, may_grow, MayRefuse, Serves, shift_refusal, ShiftFault, AreCopies, CopiesAs, HasNoCopies, cells_in, ℤ, option_map, ShiftsTo, shifted, Tree, copied, MayGrow, same_Some, ◌↔◌, take}
 use Rattle.wi_parser.specs.declared.content.Content.TheVariants.{Formula}
 use Rattle.wi_scenarios.specs.declared.refusal.Refusal.TheVariants as refusal
 use Rattle.wi_parser.specs.declared.shift.ShiftFault.TheVariants as shift
-use Rattle.wi_scenarios.proofs.CauseTests.{is_large, any_is, none_there}
-use Rattle.wi_scenarios.proofs.EditLemmas.{outside_first, last, edit_step, edit_grows, same_edit, edit_serves}
+use Rattle.wi_scenarios.proofs.CallLemmas.{ends_so}
+use Rattle.wi_scenarios.proofs.CauseTests.{is_large, any_is, none_there, NoneHolds, both_none, behind_none}
+use Rattle.wi_scenarios.proofs.OperandLemmas.{once}
+use Rattle.wi_scenarios.proofs.EditLemmas.{outside_first, last, edit_step, edit_grows, same_edit, edit_serves, front, none_forced}
 
 -- each cell of the rectangle gets its copy
 abbrev pub fill_edit : Sheet → ℕ → Area → Edit
@@ -57,10 +59,6 @@ pub fill_outside : (force one two : Bool) (c : Cell) (r : CornerCells) → is_ou
 fill_outside true one two c r o p = ap₂ ◌||◌ o (or-false _ ∙ p)
 fill_outside false one two c r o p = ap₂ ◌||◌ o (or-false _ ∙ p)
 
--- a number of cells, as a product
-once : (n : ℕ) → n * 1 ≡ n
-once n = omega arith
-
 module _ (s : State) (force : Bool) (c : Cell) (r : CornerCells) where
   abbrev fill : Command
   fill = Fill force c r
@@ -71,17 +69,9 @@ module _ (s : State) (force : Bool) (c : Cell) (r : CornerCells) where
   abbrev puts : List Put
   puts = map (λ to. (to, or_nothing (copy_to (content_of s.stored.sheet (address c)) (address c) to))) (cells_of (area r))
 
-  none_missing : (f : Bool) → list_any (is_missing s) (form (Fill f c r)) ≡ false
-  none_missing true = refl
-  none_missing false = refl
-
   size_is : (f : Bool) → cells_asked (form (Fill f c r)) ≡ size_of (area r)
   size_is true = once (size_of (area r))
   size_is false = once (size_of (area r))
-
-  pub one_done : (x y : State × List ℕ) → Does s fill x → Does s fill y → x ≡ y
-  one_done x y h k =
-      h.2 ∙ ap (λ (q : List Put). let d : State × List ℕ = (after_edit s fill q, []) in d) (one_puts copy (cells_of (area r)) h.0 k.0 h.1 k.1) ∙ sym k.2
 
   leaving : (leaves s (address c) (area r) ≡ true) ↔ Holds s LeavesSheet fill
   leaving = any_is (λ to. not (is_some (copy to))) (λ to. copy to ≡ None) (λ to. none_there (copy to)) (cells_of (area r))
@@ -97,31 +87,21 @@ module _ (s : State) (force : Bool) (c : Cell) (r : CornerCells) where
     small e h = both_ways _ e ((is_large _).1 (subst (λ (n : ℕ). max_area < n) (size_is force) h))
 
     module _ (few : nat_lt max_area (size_of (area r)) ≡ false) where
-      front : (x : Cause) → IsFirstOf s fill (LeavesSheet ∷ last) x → IsFirstOf s fill causes x
-      front x h =
-          inr (λ k. k, inr (λ k. k, inr (λ k. k, inr (inside, inr (small few, inr (λ k. both_ways _ (none_missing force) k, inr (λ k. k, inr (λ k. k, inr (λ k. k, inr (λ k. k, inr (λ k. k, inr (λ k. k, inr (λ k. k, inr (λ k. k, h))))))))))))))
-
-      only : leaves s (address c) (area r) ≡ false → (x : Cause) → Holds s x fill → Holds s Stale fill ⊎ (Holds s Full fill ⊎ Holds s EditLimit fill)
-      only e Outside h = absurd (inside h)
-      only e TooLarge h = absurd (small few h)
-      only e NoScenario h = absurd (both_ways _ (none_missing force) h)
-      only e LeavesSheet h = absurd (both_ways _ e (leaving.1 h))
-      only e Stale h = inl h
-      only e Full h = inr (inl h)
-      only e EditLimit h = inr (inr h)
-      only e x h = absurd h
+      none_first : NoneHolds s fill (take 14 front)
+      none_first =
+          (λ k. k, (λ k. k, (λ k. k, (inside, (small few, (none_forced (is_missing s) force _ refl refl, (λ k. k, (λ k. k, (λ k. k, (λ k. k, (λ k. k, (λ k. k, (λ k. k, (λ k. k, tt))))))))))))))
 
       filling : leaves s (address c) (area r) ≡ false → IsStep s fill (edit_answer s force (fill_edit s.stored.sheet (address c) (area r)))
       filling e =
           let are : Puts s fill puts = copies_are copy (cells_of (area r)) e in
-          edit_step s fill force (area r ∷ []) puts are (λ q h. one_puts copy (cells_of (area r)) q puts h are) refl refl (λ h. h)
-          (λ x h. front x (inr (λ k. both_ways _ e (leaving.1 k), h))) (only e) (λ d h. h)
+          edit_step s fill force (area r ∷ []) puts are (one_puts copy (cells_of (area r))) refl refl (λ h. h)
+          (both_none s fill (take 14 front) (LeavesSheet ∷ []) none_first (λ k. both_ways _ e (leaving.1 k), tt)) (λ d h. h)
 
     -- by what holds
     pub fill_step : (large outside : Bool) → nat_lt max_area (size_of (area r)) ≡ large → leaves s (address c) (area r) ≡ outside
         → IsStep s fill (filled_by s force large outside (fill_edit s.stored.sheet (address c) (area r)))
     fill_step true outside eb el = (TooLarge, inr (λ k. k, inr (λ k. k, inr (λ k. k, inr (inside, inl (big eb, refl))))), refl)
-    fill_step false true eb el = (LeavesSheet, front eb LeavesSheet (inl (leaving.0 el, refl)), refl)
+    fill_step false true eb el = (LeavesSheet, behind_none s fill (take 14 front) (LeavesSheet ∷ last) LeavesSheet (none_first eb) (inl (leaving.0 el, refl)), refl)
     fill_step false false eb el = filling eb el
 
   -- where an operand lies outside the sheet
@@ -206,15 +186,11 @@ no_copy_in_rows content from area first n row shift.Memory l m h = tt
 pub fill_leaves : (r : Result (Unit {0}) Refusal) (s : State) (force : Bool) (content : Option Content) (from : ℕ) (area : Area) (fault : ShiftFault) → IsPlaced from → IsSpanned area → content ≡ content_of s.stored.sheet from
     → nat_lt max_area (size_of area) ≡ false → IsErrAnd r (λ e. e ≡ shift_refusal fault) → HasNoCopies content from (cells_of area) fault → Serves (IsStep s (Fill force (cell from) (corners area))) r s s []
 fill_leaves r s force content from area fault placed spanned at small k none =
-    let p = err_from_is_err_and r k in
-    subst (λ x. Serves (IsStep s (Fill force (cell from) (corners area))) x s s []) (sym p.1) (by p.0 fault p.2 none, refl, refl)
+    ends_so (λ x. Serves (IsStep s (Fill force (cell from) (corners area))) x s s []) (shift_refusal fault) r k (by fault none, refl, refl)
   where
-    by : (e : Refusal) (f : ShiftFault) → e ≡ shift_refusal f → HasNoCopies content from (cells_of area) f → MayRefuse e (IsStep s (Fill force (cell from) (corners area)))
-    by e shift.LeavesSheet same outside =
-        let leaves_it : leaves s from area ≡ true = subst (λ c. list_any (has_no_copy c from) (cells_of area) ≡ true) at outside in
-        subst (λ (x : Refusal). MayRefuse x (IsStep s (Fill force (cell from) (corners area)))) (sym same) (fill_of s force from area placed spanned false true small leaves_it)
-    by e shift.Memory same u =
-        subst (λ (x : Refusal). MayRefuse x (IsStep s (Fill force (cell from) (corners area)))) (sym same) (may_grow_first s force from area placed spanned small)
+    by : (f : ShiftFault) → HasNoCopies content from (cells_of area) f → MayRefuse (shift_refusal f) (IsStep s (Fill force (cell from) (corners area)))
+    by shift.LeavesSheet outside = fill_of s force from area placed spanned false true small (subst (λ c. list_any (has_no_copy c from) (cells_of area) ≡ true) at outside)
+    by shift.Memory u = may_grow_first s force from area placed spanned small
 
 -- ---- a fill with copies
 
@@ -240,9 +216,7 @@ copied_cells content from cells contents h = ap keys_of h.each ∙ keys_of_copie
 
 -- a copy for which memory lacks
 pub lacks_copy : (found : Option (Option Content)) (r : Result (Option Content) ShiftFault) → IsErrAnd r (λ e. e ≡ shift.Memory) → CopiesAs found r
-lacks_copy found r k =
-    let p = err_from_is_err_and r k in
-    subst (CopiesAs found) (sym p.1) (subst (λ (e : ShiftFault). CopiesAs found (Err e)) (sym p.2) tt)
+lacks_copy found r k = ends_so (CopiesAs found) shift.Memory r k tt
 
 -- a formula's copy is what it is shifted to
 pub formula_copied : (content : Option Content) (t u : Tree) (down right d r : ℤ) → content ≡ Some (Formula t) → d ≡ down → r ≡ right → shifted d r t ≡ Some u → copied down right content ≡ Some (Some (Formula u))
@@ -254,9 +228,8 @@ formula_copied content t u down right d r is p q h =
 pub formula_not_copied : (content : Option Content) (t : Tree) (down right d r : ℤ) (fault : ShiftFault) (made : Result (Option Content) ShiftFault) → content ≡ Some (Formula t) → d ≡ down → r ≡ right → ShiftsTo (shifted d r t) (Err fault)
     → IsErrAnd made (λ e. e ≡ fault) → CopiesAs (copied down right content) made
 formula_not_copied content t down right d r shift.LeavesSheet made is p q h k =
-    let same = err_from_is_err_and made k in
     let none : copied down right content ≡ None =
     ap (copied down right) is
     ∙ ap (option_map (λ (v : Tree). Some (Formula v))) (ap (λ (x : ℤ). shifted x right t) (sym p) ∙ ap (λ (x : ℤ). shifted d x t) (sym q) ∙ h) in
-    subst (CopiesAs (copied down right content)) (sym same.1) (subst (λ (e : ShiftFault). CopiesAs (copied down right content) (Err e)) (sym same.2) none)
+    ends_so (CopiesAs (copied down right content)) shift.LeavesSheet made k none
 formula_not_copied content t down right d r shift.Memory made is p q h k = lacks_copy (copied down right content) made k

@@ -3,7 +3,7 @@ use Rattle.wi_scenarios.proofs.Words.{◌≡◌, ◌∙◌, ◌*◌, ℕ, Bool, 
 use Rattle.wi_scenarios.specs.declared.refusal.Refusal.TheVariants as refusal
 use Rattle.wi_scenarios.proofs.CauseTests.{EditsNone, first_found, refused_for, accepted, is_misshaped}
 use Rattle.wi_scenarios.proofs.CallLemmas.{serves_as, Looked}
-use Rattle.wi_scenarios.proofs.OperandLemmas.{neither}
+use Rattle.wi_scenarios.proofs.OperandLemmas.{neither, once}
 
 -- a call that wrote some records, and did as an answer of a step says
 looked_step : (s : State) (c : Command) (step : Answer) → IsStep s c step → (r : Result (Unit {0}) Refusal) (t : State) (before after : List ℕ) → Looked step r s t before after
@@ -12,10 +12,6 @@ looked_step s c step is r t before after h =
     (h.0, h.1, serves_as (λ a. step ≡ a) (IsStep s c) (λ a e. subst (IsStep s c) e is) r s t h.0 h.2)
 
 -- ---- an area, of which scenarios may be shown
-
--- a number of cells, as a product
-once : (n : ℕ) → n * 1 ≡ n
-once n = omega arith
 
 -- the answer, where it lies outside the sheet, is too large, or a scenario is missing
 abbrev pub area_answer : Bool → Bool → Bool → State × List ℕ → Answer
@@ -28,9 +24,9 @@ abbrev area_cause : Bool → Bool → Bool → Option Cause
 area_cause out big lack = if out then Some Outside else (if big then Some TooLarge else (if lack then Some NoScenario else None))
 
 area_step : (s : State) (c : Command) → EditsNone c → (done : State × List ℕ) → Does s c done → (out big lack : Bool) → first_found s c ≡ area_cause out big lack → IsStep s c (area_answer out big lack done)
-area_step s c u done does true big lack e = refused_for s c u Outside e
-area_step s c u done does false true lack e = refused_for s c u TooLarge e
-area_step s c u done does false false true e = refused_for s c u NoScenario e
+area_step s c u done does true big lack e = refused_for s c u Outside refl e
+area_step s c u done does false true lack e = refused_for s c u TooLarge refl e
+area_step s c u done does false false true e = refused_for s c u NoScenario refl e
 area_step s c u done does false false false e = accepted s c u e done does
 
 module _ (s : State) (r : CornerCells) where
@@ -132,9 +128,9 @@ module _ (s : State) (f r : Cell) (xs : CornerCells) (second : Option (Cell × C
 
   pub table_step : (bent out large : Bool) → is_misshaped xs second ≡ bent → list_any lies_outside (form (Table f r xs second)) ≡ out
       → nat_lt max_area (cells_asked (form (Table f r xs second))) ≡ large → IsStep s (Table f r xs second) (table_answer bent out large done)
-  table_step true out large eb eo el = refused_for s (Table f r xs second) tt BadCommand (rw eb refl)
-  table_step false true large eb eo el = refused_for s (Table f r xs second) tt Outside (rw (eb, eo) refl)
-  table_step false false true eb eo el = refused_for s (Table f r xs second) tt TooLarge (rw (eb, eo, el) refl)
+  table_step true out large eb eo el = refused_for s (Table f r xs second) tt BadCommand refl (rw eb refl)
+  table_step false true large eb eo el = refused_for s (Table f r xs second) tt Outside refl (rw (eb, eo) refl)
+  table_step false false true eb eo el = refused_for s (Table f r xs second) tt TooLarge refl (rw (eb, eo, el) refl)
   table_step false false false eb eo el = let none = none_missing second in accepted s (Table f r xs second) tt (rw (eb, eo, el, none) refl) done refl
 
 -- ---- operands of the sheet

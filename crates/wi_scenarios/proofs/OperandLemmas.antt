@@ -1,9 +1,13 @@
 -- Addresses and rectangles of the sheet as operands of commands.
-use Rattle.wi_scenarios.proofs.Words.{◌≡◌, ◌∙◌, ℕ, ◌<◌, ◌≤◌, ◌||◌, Bool, true, false, nat_le, min, max, ap, arith, nat_tests, Area, place, rect_of, row_of, column_of, rows, columns, Cell, CornerCells, is_outside, address, area, cell, height, width, IsPlaced, IsSpanned, or_parts}
+use Rattle.wi_scenarios.proofs.Words.{◌≡◌, ◌∙◌, ℕ, ◌<◌, ◌≤◌, ◌||◌, Bool, true, false, nat_le, min, max, ap, arith, nat_tests, Area, place, rect_of, row_of, column_of, rows, columns, Cell, CornerCells, is_outside, address, area, cell, height, width, IsPlaced, IsSpanned, or_parts, ◌*◌}
 
 pub neither : (a b : Bool) → a ≡ false → b ≡ false → (a || b) ≡ false
 neither false b h k = k
 neither true b h k = h
+
+-- a number of cells, as a product
+pub once : (n : ℕ) → n * 1 ≡ n
+once n = omega arith
 
 pub not_above : (m n : ℕ) → n < m → nat_le m n ≡ false
 not_above m n l = grind (arith, nat_tests)

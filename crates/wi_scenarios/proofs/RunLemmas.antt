@@ -1,5 +1,5 @@
 -- What each command leaves, and what it does to the sessions and to the log.
-use Rattle.wi_scenarios.proofs.Words.{◌≡◌, ◌∙◌, ℕ, inl, inr, Bool, true, false, cond, List, [], ◌∷◌, Some, Ok, Err, refl, sym, ap, subst, find, bytes_eq, bytes_eq-Decides, is_named, scenario_for, with_scenario, without_scenario, with_own, without_own, scenario_or_new, found_with, found_without, State, Answer, Event, MayHappen, IsEdited, HasScenarioChanged, Leaves, Command, Set, Clear, Fill, Csv, Scenario, Drop, Base, Unknown, Unreadable, address, named, Put, after_edit, Does, state_with, IsStep, ◌≢◌, zero, suc, ◌+◌, ◌<◌, ◌≤◌, ◌==◌, ◌⊎◌, not, ◌&&◌, ◌||◌, ◌++◌, length, get_or, arith, list_any, position_or_len, eqb-true, eqb-false, ne_eqb, false≢true, length-set, length-append, get_or-set_same, get_or-set_other, Stored, with_changes, Session, new_session, has_session, with_session, index_of, using_scenario, told, state_over, current_session, with_current, change_list, left_by, MayFollow, IsCoherent, StaysCoherent, KeepsApart, is_changes, is_accepted_changes, with_lists, ListsAddUp, named_by, logged, LogGrows, Use, As, Changes, append-nil}
+use Rattle.wi_scenarios.proofs.Words.{◌≡◌, ◌∙◌, ℕ, inl, inr, Bool, true, false, cond, List, [], ◌∷◌, Some, Ok, Err, refl, sym, ap, subst, find, bytes_eq, bytes_eq-Decides, is_named, scenario_for, with_scenario, without_scenario, with_own, without_own, scenario_or_new, found_with, found_without, State, Answer, Event, MayHappen, IsEdited, HasScenarioChanged, Leaves, Command, Set, Clear, Fill, Csv, Scenario, Drop, Base, Unknown, Unreadable, address, named, Put, after_edit, Does, state_with, IsStep, ◌≢◌, zero, suc, ◌+◌, ◌<◌, ◌≤◌, ◌==◌, ◌⊎◌, not, ◌&&◌, ◌||◌, ◌++◌, length, get_or, arith, list_any, position_or_len, eqb-true, eqb-false, ne_eqb, false≢true, length-set, length-append, get_or-set_same, get_or-set_other, Stored, with_changes, Session, new_session, has_session, with_session, index_of, using_scenario, told, state_over, current_session, with_current, change_list, left_by, MayFollow, IsCoherent, StaysCoherent, KeepsApart, is_changes, is_accepted_changes, with_lists, ListsAddUp, named_by, logged, LogGrows, Use, As, Changes, append-nil, prefix_len-le-length}
 use Rattle.wi_scenarios.specs.Views.{session_at}
 use Rattle.wi_scenario_list.specs.Scenarios as list
 use Rattle.wi_scenarios.proofs.EventLemmas as events
@@ -78,8 +78,6 @@ what_happens s e (inr h) = subst (Outcome s e.command) (sym h) tt
 
 pub leaves : (s t : State) (c : Command) (records : List ℕ) → IsStep s c (Ok (t, records)) → Leaves c s t
 leaves s t c records h = does_leave s c (t, records) h.1
-
--- ---- what commands do to the sessions and to the log
 
 -- ---- the log after a command
 
@@ -172,21 +170,13 @@ first_before p (x ∷ xs) h = by (p x) refl (first_before p xs)
     by true e k = omega arith
     by false e k = let l = k (ap (λ (c : Bool). c || list_any p xs) (sym e) ∙ h) in omega (arith, l)
 
-first_at_most : (p : Session → Bool) (xs : List Session) → position_or_len p xs ≤ length xs
-first_at_most p [] = omega arith
-first_at_most p (x ∷ xs) = by (p x) (first_at_most p xs)
-  where
-    by : (b : Bool) → position_or_len p xs ≤ length xs → cond (not b) (1 + position_or_len p xs) 0 ≤ suc (length xs)
-    by true k = omega arith
-    by false k = omega (arith, k)
-
 place_within : (xs : List Session) (name : List ℕ) → index_of xs name < length (with_session xs name)
 place_within xs name = by (has_session xs name) refl
   where
     by : (b : Bool) → has_session xs name ≡ b → index_of xs name < length (cond b xs (xs ++ new_session name ∷ []))
     by true h = first_before (λ x. bytes_eq name x.name) xs h
     by false h =
-        let k : index_of xs name ≤ length xs = first_at_most (λ x. bytes_eq name x.name) xs in
+        let k : index_of xs name ≤ length xs = prefix_len-le-length (λ (x : Session). not (bytes_eq name x.name)) xs in
         let l = length-append xs (new_session name ∷ []) in
         omega (arith, k, l)
 

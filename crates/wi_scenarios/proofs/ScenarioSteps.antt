@@ -1,26 +1,30 @@
 -- The steps of the commands of scenarios, by what their bodies find, and what they leave.
-use Rattle.wi_scenarios.proofs.Words.{◌≡◌, ◌≢◌, ◌∙◌, ◌<◌, ◌≤◌, ℕ, Bool, true, false, not, ◌||◌, List, [], ◌∷◌, ◌++◌, length, Option, Some, None, Ok, Err, if◌then◌else◌, refl, sym, ap, le-leb, list_any, or-false, both_ways, bytes_eq, Value, IsImported, imported_exactly, has_scenario, scenario_for, with_scenario, without_scenario, with_own, without_own, is_full, is_name_of, is_base, lacks, based_on, would_loop, Session, new_session, max_sessions, has_session, index_of, using_scenario, State, current_session, with_current, Answer, Kept, Scenario, Drop, Base, Use, As, form, Cell, is_missing, is_outside, address, cell, Cause, NoScenario, InUse, TooMany, TooLong, Loop, Does, state_with, IsStep, IsPlaced, ◌↔◌, Result, subst, IsErrOf, IsErrAnd, err_from_is_err_and, FieldFault, imported, Refusal, Memory, Serves, field_refusal, on_err, Sheet, Stored, Desk, book_of, state_of, IsSound, ServesSound, MakesSound, AllocError, Command, zero, suc, slice_index_or, list_any_at, Replacement, shown, scenario_of, layered, max_scenarios, effective, chain, chain_within, scenario_without, not_based, same_Some}
+use Rattle.wi_scenarios.proofs.Words.{◌≡◌, ◌≢◌, ◌∙◌, ◌<◌, ◌≤◌, ℕ, Bool, true, false, not, ◌||◌, List, [], ◌∷◌, ◌++◌, length, Option, Some, None, Ok, Err, if◌then◌else◌, refl, sym, ap, le-leb, list_any, or-false, both_ways, bytes_eq, Value, IsImported, imported_exactly, has_scenario, scenario_for, with_scenario, without_scenario, with_own, without_own, is_full, is_name_of, is_base, lacks, based_on, would_loop, Session, new_session, max_sessions, has_session, index_of, using_scenario, State, current_session, with_current, Answer, Kept, Scenario, Drop, Base, Use, As, form, Cell, is_missing, is_outside, address, cell, Cause, NoScenario, InUse, TooMany, TooLong, Loop, Does, state_with, IsStep, IsPlaced, ◌↔◌, Result, subst, IsErrOf, IsErrAnd, FieldFault, imported, Refusal, Memory, Serves, field_refusal, on_err, Sheet, Stored, Desk, book_of, state_of, IsSound, ServesSound, MakesSound, AllocError, Command, zero, suc, slice_index_or, list_any_at, Replacement, shown, scenario_of, layered, max_scenarios, effective, chain, chain_within, scenario_without, not_based, same_Some, Book, IsDrop, not-false, or_parts, false_from_ne_true}
 use Rattle.wi_scenarios.specs.declared.refusal.Refusal.TheVariants as refusal
 use Rattle.wi_values.specs.declared.import.FieldFault.TheVariants as field
 use Rattle.wi_scenarios.proofs.SessionLemmas.{no_place}
 use Rattle.wi_scenarios.proofs.OperandLemmas.{not_above}
 use Rattle.wi_scenarios.proofs.CauseTests.{is_in_use, first_found, refused_for, accepted}
-use Rattle.wi_scenarios.proofs.CallLemmas.{lacked, unchanged}
+use Rattle.wi_scenarios.proofs.CallLemmas.{lacked, unchanged, ends_so}
 
 -- ---- drop
 
 module _ (s : State) (name : List ℕ) where
   pub drop_unknown : has_scenario s.scenarios name ≡ false → IsStep s (Drop name) (Err refusal.NoScenario)
-  drop_unknown e = refused_for s (Drop name) tt NoScenario (rw e refl)
+  drop_unknown e = refused_for s (Drop name) tt NoScenario refl (rw e refl)
 
   pub drop_used : has_scenario s.scenarios name ≡ true → is_in_use s name ≡ true → IsStep s (Drop name) (Err refusal.InUse)
-  drop_used e f = refused_for s (Drop name) tt InUse (rw (e, f) refl)
+  drop_used e f = refused_for s (Drop name) tt InUse refl (rw (e, f) refl)
 
   pub drop_done : (next : List Kept) → next ≡ without_scenario s.scenarios name → has_scenario s.scenarios name ≡ true → list_any (λ x. is_name_of name x.scenario) s.sessions ≡ false
       → is_base s.scenarios name ≡ false → IsStep s (Drop name) (Ok (record s { scenarios = next }, []))
   drop_done next e there unused free =
       accepted s (Drop name) tt (rw (there, unused, free) refl) (record s { scenarios = next }, [])
       (ap (λ (xs : List Kept). let d : State × List ℕ = (record s { scenarios = xs }, []) in d) e)
+
+-- a call that changed nothing
+pub not_dropped : {name : List ℕ} {b : Book} (e : Refusal) → Serves (IsStep b.state (Drop name)) (Err e) b.state b.state [] → (◌≡◌ {A = Result (Unit {0}) Refusal} (Err e) (Err Memory) → ⊥) → IsDrop name (Err e) b b
+not_dropped e step other = record { step = step; pending = refl; counts = (refl, refl); no_memory = other }
 
 -- ---- use
 
@@ -30,7 +34,7 @@ used s name = with_current s (using_scenario (current_session s) name)
 module _ (s : State) where
   pub use_unknown : (name : Option (List ℕ)) → lacks s.scenarios name ≡ true → IsStep s (Use name) (Err refusal.NoScenario)
   use_unknown None e = absurd (both_ways false refl e)
-  use_unknown (Some name) e = refused_for s (Use (Some name)) tt NoScenario (rw e refl)
+  use_unknown (Some name) e = refused_for s (Use (Some name)) tt NoScenario refl (rw e refl)
 
   pub use_done : (name : Option (List ℕ)) → lacks s.scenarios name ≡ false → IsStep s (Use name) (Ok (used s name, []))
   use_done None e = accepted s (Use None) tt refl (used s None, []) refl
@@ -61,10 +65,10 @@ module _ (s : State) (name : List ℕ) where
 
   module _ (other : Option (List ℕ)) where
     pub base_unknown : lacks_one s name other ≡ true → IsStep s (Base name other) (Err refusal.NoScenario)
-    base_unknown e = refused_for s (Base name other) tt NoScenario (base_first other ∙ rw e refl)
+    base_unknown e = refused_for s (Base name other) tt NoScenario refl (base_first other ∙ rw e refl)
 
     pub base_loop : lacks_one s name other ≡ false → would_loop s.scenarios name other ≡ true → IsStep s (Base name other) (Err refusal.Loop)
-    base_loop e f = refused_for s (Base name other) tt Loop (base_first other ∙ rw (e, f) refl)
+    base_loop e f = refused_for s (Base name other) tt Loop refl (base_first other ∙ rw (e, f) refl)
 
     pub base_done : lacks_one s name other ≡ false → would_loop s.scenarios name other ≡ false → IsStep s (Base name other) (Ok (rebased s name other, []))
     base_done e f = accepted s (Base name other) tt (base_first other ∙ rw (e, f) refl) (rebased s name other, []) refl
@@ -74,7 +78,7 @@ module _ (s : State) (name : List ℕ) where
 module _ (s : State) (name : List ℕ) where
   -- with so many sessions, and none of the name
   pub as_full : has_session s.sessions name ≡ false → max_sessions ≤ length s.sessions → IsStep s (As name) (Err refusal.TooMany)
-  as_full h l = let m = le-leb max_sessions (length s.sessions) l in refused_for s (As name) tt TooMany (rw (h, m) refl)
+  as_full h l = let m = le-leb max_sessions (length s.sessions) l in refused_for s (As name) tt TooMany refl (rw (h, m) refl)
 
   abbrev as_left : List Session → ℕ → State × List ℕ
   as_left sessions current = (record s { sessions = sessions; current = current }, [])
@@ -119,17 +123,17 @@ module _ (s : State) (name : List ℕ) (a : ℕ) (placed : IsPlaced a) where
   inside = placed.inside
 
   pub away_unknown : has_scenario s.scenarios name ≡ false → IsStep s (Scenario name (cell a) []) (Err refusal.NoScenario)
-  away_unknown e = refused_for s (Scenario name (cell a) []) tt NoScenario (rw (inside, e) refl)
+  away_unknown e = refused_for s (Scenario name (cell a) []) tt NoScenario refl (rw (inside, e) refl)
 
   pub away_done : has_scenario s.scenarios name ≡ true → IsStep s (Scenario name (cell a) []) (Ok (taken_from s name a))
   away_done e = accepted s (Scenario name (cell a) []) tt (rw (inside, e) refl) (taken_from s name a) (ap (taken_from s name) (sym placed.again))
 
   pub put_of : (text : List ℕ) → text ≢ [] → (value : Option Value) → IsImported text value → (full : Bool) → is_full s.scenarios name a ≡ full → IsStep s (Scenario name (cell a) text) (put_answer s name a full value)
   put_of [] some value is full e = absurd (some refl)
-  put_of (b ∷ bs) some value is true e = refused_for s (Scenario name (cell a) (b ∷ bs)) tt TooMany (rw (inside, placed.again, e) refl)
+  put_of (b ∷ bs) some value is true e = refused_for s (Scenario name (cell a) (b ∷ bs)) tt TooMany refl (rw (inside, placed.again, e) refl)
   put_of (b ∷ bs) some None is false e =
       let long = (imported_exactly (b ∷ bs) None).0 is in
-      refused_for s (Scenario name (cell a) (b ∷ bs)) tt TooLong (rw (inside, placed.again, e, long) refl)
+      refused_for s (Scenario name (cell a) (b ∷ bs)) tt TooLong refl (rw (inside, placed.again, e, long) refl)
   put_of (b ∷ bs) some (Some v) is false e =
       let same = (imported_exactly (b ∷ bs) (Some v)).0 is in
       accepted s (Scenario name (cell a) (b ∷ bs)) tt (rw (inside, placed.again, e, same) refl) (put_state s name a v)
@@ -138,8 +142,6 @@ module _ (s : State) (name : List ℕ) (a : ℕ) (placed : IsPlaced a) where
 pub one_put : (s : State) (name : List ℕ) (at : Cell) (b : ℕ) (bs : List ℕ) (x y : State × List ℕ) → Does s (Scenario name at (b ∷ bs)) x → Does s (Scenario name at (b ∷ bs)) y → x ≡ y
 one_put s name at b bs x y h k =
     h.2 ∙ ap (λ (v : Value). put_state s name (address at) v) (same_Some h.0 k.0 (sym ((imported_exactly (b ∷ bs) (Some h.0)).0 h.1) ∙ (imported_exactly (b ∷ bs) (Some k.0)).0 k.1)) ∙ sym k.2
-
--- ---- what commands about scenarios answer
 
 -- ---- what a command leaves
 
@@ -184,9 +186,7 @@ pub unread : (s : State) (name : List ℕ) (at : ℕ) (text : List ℕ) → IsPl
     → is_full s.scenarios name at ≡ false → got ≡ Err fault → (IsErrOf got field.TooLong ↔ (imported text ≡ None)) → IsErrAnd r (λ e. e ≡ field_refusal fault)
     → Serves (IsStep s (Scenario name (cell at) text)) r s s []
 unread s name at text placed some got fault r e was long k =
-    let found = err_from_is_err_and r k in
-    subst (λ (x : Result (Unit {0}) Refusal). Serves (IsStep s (Scenario name (cell at) text)) x s s []) (sym found.1)
-    (subst (λ (x : Refusal). Serves (IsStep s (Scenario name (cell at) text)) (Err x) s s []) (sym found.2) (by fault was (imported text) refl))
+    ends_so (λ (x : Result (Unit {0}) Refusal). Serves (IsStep s (Scenario name (cell at) text)) x s s []) (field_refusal fault) r k (by fault was (imported text) refl)
   where
     put : (o : Option Value) → imported text ≡ o → IsStep s (Scenario name (cell at) text) (put_answer s name at false o)
     put o f = put_of s name at placed text some o ((imported_exactly text o).1 f) false e
@@ -198,14 +198,8 @@ unread s name at text placed some got fault r e was long k =
 
 -- ---- bases
 
-there_left : (b c : Bool) → (not b || c) ≡ false → b ≡ true
-there_left true c h = refl
-there_left false c h = cc
-
 pub is_there : (s : State) (name : List ℕ) (other : Option (List ℕ)) → (not (has_scenario s.scenarios name) || lacks s.scenarios other) ≡ false → has_scenario s.scenarios name ≡ true
-is_there s name other e = there_left (has_scenario s.scenarios name) (lacks s.scenarios other) e
-
--- ---- that no session is shown anything else after `drop`
+is_there s name other e = not-false (has_scenario s.scenarios name) (or_parts (not (has_scenario s.scenarios name)) (lacks s.scenarios other) e).0
 
 -- ---- what the others put in
 
@@ -226,11 +220,9 @@ effective_stays xs name o h n = ap layered (chain_stays max_scenarios xs name o 
 
 -- no session uses it
 unused_at : (xs : List Session) (name : List ℕ) (i : ℕ) → list_any (λ x. is_name_of name x.scenario) xs ≡ false → i < length xs → is_name_of name (slice_index_or xs i (new_session [])).scenario ≡ false
-unused_at xs name i h l = by (is_name_of name (slice_index_or xs i (new_session [])).scenario) refl
-  where
-    by : (b : Bool) → is_name_of name (slice_index_or xs i (new_session [])).scenario ≡ b → b ≡ false
-    by false e = refl
-    by true e = absurd (let k = sym (list_any_at (λ x. is_name_of name x.scenario) xs i (new_session []) l e) ∙ h in cc)
+unused_at xs name i h l =
+    false_from_ne_true (is_name_of name (slice_index_or xs i (new_session [])).scenario)
+    (λ e. both_ways _ h (list_any_at (λ x. is_name_of name x.scenario) xs i (new_session []) l e))
 
 pub sound_without : {marked : Sheet → List ℕ → ℕ → Bool} (stored : Stored) (d : Desk) (next : List Kept) (name : List ℕ) → next ≡ without_scenario d.scenarios name → list_any (λ x. is_name_of name x.scenario) d.sessions.sessions ≡ false
     → is_base d.scenarios name ≡ false → IsSound marked stored d → IsSound marked stored (record d { scenarios = next })

@@ -93,6 +93,14 @@ none_put : (xs : List Kept) → effective xs None ≡ []
 unfolding chain
 none_put xs = refl
 
+-- a new session, for which the occupied cells are pending, has the right picture of all others
+begins : (stored : Stored) (scenarios : List Kept) (x : Session) (name pending cells : List ℕ) (a : ℕ) → x ≡ new_session name → SameCells pending cells → cells ≡ occupied_cells stored.sheet
+    → a < sheet_size → is_one_of pending a ≡ false → value_in x.picture a ≡ shown stored.sheet (effective scenarios x.scenario) a
+begins stored scenarios x name pending cells a here same are m k =
+    ap (λ (x : Session). value_in x.picture a) here ∙ sym (shows_nothing stored.sheet a (unoccupied stored.sheet a m (sym (ap (λ xs. is_one_of xs a) are) ∙ sym (same a) ∙ k)))
+    ∙ ap (λ (p : List Replacement). shown stored.sheet p a) (sym (none_put scenarios))
+    ∙ ap (λ (x : Session). shown stored.sheet (effective scenarios x.scenario) a) (sym here)
+
 pub sound_new : {marked : Sheet → List ℕ → ℕ → Bool} (stored : Stored) (d : Desk) (r : Roster) (place : ℕ) (name cells new : List ℕ) → length d.sessions.sessions < max_sessions → place ≡ length d.sessions.sessions
     → r.sessions ≡ d.sessions.sessions ++ new_session name ∷ [] → r.pending ≡ d.sessions.pending ++ new ∷ [] → SameCells new cells → cells ≡ occupied_cells stored.sheet
     → IsClosed marked stored.sheet (is_one_of (occupied_cells stored.sheet)) → ((i : ℕ) → vacant_of r i ≡ vacant_of d.sessions i) → IsSound marked stored d
@@ -138,12 +146,7 @@ sound_new {marked} stored d r place name cells new few at grown more same are ma
         let here : slice_index_or r.sessions i (new_session []) ≡ new_session name =
         ap (λ xs. slice_index_or xs i (new_session [])) grown ∙ ap (λ n. slice_index_or (d.sessions.sessions ++ new_session name ∷ []) n (new_session [])) e
         ∙ get_or-append_seam d.sessions.sessions (new_session name) [] (new_session []) in
-        let listed : slice_index_or r.pending i [] ≡ new = listed_last i e in
-        let free : is_one_of (occupied_cells stored.sheet) a ≡ false =
-        sym (ap (λ xs. is_one_of xs a) are) ∙ sym (same a) ∙ sym (ap (λ xs. is_one_of xs a) listed) ∙ k in
-        ap (λ (x : Session). value_in x.picture a) here ∙ sym (shows_nothing stored.sheet a (unoccupied stored.sheet a m free))
-        ∙ ap (λ (p : List Replacement). shown stored.sheet p a) (sym (none_put d.scenarios))
-        ∙ ap (λ (x : Session). shown stored.sheet (effective d.scenarios x.scenario) a) (sym here)
+        begins stored d.scenarios (slice_index_or r.sessions i (new_session [])) name new cells a here same are m (sym (ap (λ xs. is_one_of xs a) (listed_last i e)) ∙ k)
 
     by : (i a : ℕ) → a < sheet_size → (i < length d.sessions.sessions) ⊎ (length d.sessions.sessions ≤ i) → i < length d.sessions.sessions + 1 → is_one_of (slice_index_or r.pending i []) a ≡ false
         → value_in (slice_index_or r.sessions i (new_session [])).picture a ≡ shown stored.sheet (effective d.scenarios (slice_index_or r.sessions i (new_session [])).scenario) a
@@ -198,8 +201,5 @@ sound_first {marked} stored d name cells none zeroth is each same are marks vaca
     by i a m e k =
         let here : slice_index_or d.sessions.sessions i (new_session []) ≡ new_session name =
         ap (λ xs. slice_index_or xs i (new_session [])) is ∙ ap (λ n. slice_index_or (new_session name ∷ []) n (new_session [])) e in
-        let free : is_one_of (occupied_cells stored.sheet) a ≡ false =
-        sym (ap (λ xs. is_one_of xs a) are) ∙ sym (same a) ∙ sym (ap (λ n. is_one_of (slice_index_or d.sessions.pending n []) a) e) ∙ k in
-        ap (λ (x : Session). value_in x.picture a) here ∙ sym (shows_nothing stored.sheet a (unoccupied stored.sheet a m free))
-        ∙ ap (λ (p : List Replacement). shown stored.sheet p a) (sym (none_put d.scenarios))
-        ∙ ap (λ (x : Session). shown stored.sheet (effective d.scenarios x.scenario) a) (sym here)
+        begins stored d.scenarios (slice_index_or d.sessions.sessions i (new_session [])) name (slice_index_or d.sessions.pending 0 []) cells a here same are m
+        (sym (ap (λ n. is_one_of (slice_index_or d.sessions.pending n []) a) e) ∙ k)

@@ -1,9 +1,10 @@
 -- The command `set`: its step, by what its body finds, and what a call leaves.
-use Rattle.wi_scenarios.proofs.Words.{◌≡◌, ◌↔◌, ◌<◌, ℕ, Bool, true, false, ◌==◌, List, [], ◌∷◌, length, ◌⊎◌, inl, inr, Some, map, ◌++◌, Result, Ok, Err, if◌then◌else◌, refl, sym, ap, ◌∙◌, subst, arith, list_any, nat_tests, both_ways, Content, ParseFault, cell_area, State, max_area, Answer, parse_refusal, Edit, edit_answer, Command, Set, form, Cell, is_outside, address, cell, Put, Puts, after_edit, Cause, BadCommand, Outside, TooLarge, NoScenario, TooLong, OutOfSheet, NumberRange, TooDeep, Syntax, LeavesSheet, Stale, Full, EditLimit, Holds, lies_outside, is_missing, cells_asked, Does, IsStep, causes, IsFirstOf, IsContent, HasFault, IsAnsweredAs, IsFirstFault, faults, is_fault, one_content, IsPlaced, Option, IsErrAnd, err_from_is_err_and, Area, content_read, is_too_long, ReadsAs, content_is_one, Refusal, may_grow, Serves}
+use Rattle.wi_scenarios.proofs.Words.{◌≡◌, ◌↔◌, ℕ, Bool, true, false, ◌==◌, List, [], ◌∷◌, length, inl, inr, Some, map, ◌++◌, Result, Ok, Err, if◌then◌else◌, refl, sym, ap, ◌∙◌, subst, arith, list_any, nat_tests, Content, ParseFault, cell_area, State, max_area, Answer, parse_refusal, Edit, edit_answer, Command, Set, form, Cell, is_outside, address, cell, Put, Puts, Cause, BadCommand, TooLong, OutOfSheet, NumberRange, TooDeep, Syntax, LeavesSheet, Holds, lies_outside, is_missing, IsStep, IsFirstOf, IsContent, HasFault, IsAnsweredAs, IsFirstFault, faults, is_fault, one_content, IsPlaced, Option, IsErrAnd, Area, content_read, is_too_long, ReadsAs, content_is_one, Refusal, may_grow, Serves, take, drop, MayRefuse, ◌≤◌}
 use Rattle.wi_parser.specs.declared.fault.ParseFault.TheVariants as parse
 use Rattle.wi_scenarios.specs.declared.refusal.Refusal.TheVariants as refusal
-use Rattle.wi_scenarios.proofs.EditLemmas.{outside_first, last, edit_step, edit_grows, same_edit}
-use Rattle.wi_scenarios.proofs.CallLemmas.{MayRefuseFound, serves, serves_as}
+use Rattle.wi_scenarios.proofs.CauseTests.{NoneHolds, both_none, behind_none}
+use Rattle.wi_scenarios.proofs.EditLemmas.{outside_first, last, edit_step, edit_grows, same_edit, front, none_forced, few_forced}
+use Rattle.wi_scenarios.proofs.CallLemmas.{serves_as, ends_so}
 
 -- ---- answers
 
@@ -27,72 +28,30 @@ module _ (s : State) (force : Bool) (c : Cell) (text : List ℕ) where
   one_puts q p h k =
       h.2 ∙ ap (λ (x : Content). let ps : List Put = (address c, Some x) ∷ [] in ps) (one_content text k.0 h.0 k.1 h.1) ∙ sym k.2
 
-  pub one_done : (x y : State × List ℕ) → Does s (Set force c text) x → Does s (Set force c text) y → x ≡ y
-  one_done x y h k =
-      h.2 ∙ ap (λ (q : List Put). let d : State × List ℕ = (after_edit s (Set force c text) q, []) in d) (one_puts h.0 k.0 h.1 k.1) ∙ sym k.2
-
 module _ (s : State) (force : Bool) (c : Cell) (text : List ℕ) (inside : is_outside c ≡ false) where
   abbrev set : Command
   set = Set force c text
 
-  not_outside : (b : Bool) → list_any lies_outside (form (Set b c text)) ≡ false
-  not_outside true = rw inside refl
-  not_outside false = rw inside refl
-
-  small : (b : Bool) → max_area < cells_asked (form (Set b c text)) → ⊥
-  small true h = omega (arith, h)
-  small false h = omega (arith, h)
-
-  none_missing : (b : Bool) → list_any (is_missing s) (form (Set b c text)) ≡ false
-  none_missing true = refl
-  none_missing false = refl
-
-  -- the causes of the content, and those behind
-  abbrev behind : List Cause
-  behind = TooLong ∷ OutOfSheet ∷ NumberRange ∷ TooDeep ∷ Syntax ∷ LeavesSheet ∷ last
+  few : 1 ≤ max_area
+  few = omega arith
 
   module _ (some : Holds s BadCommand set → ⊥) where
-    front : (x : Cause) → IsFirstOf s set behind x → IsFirstOf s set causes x
-    front x h =
-        inr (λ k. k, inr (some, inr (λ k. k, inr (λ k. both_ways _ (not_outside force) k, inr (small force, inr (λ k. both_ways _ (none_missing force) k, inr (λ k. k, inr (λ k. k, inr (λ k. k, h)))))))))
+    none_first : NoneHolds s set (take 9 front)
+    none_first =
+        (λ k. k, (some, (λ k. k, (none_forced lies_outside force _ refl (rw inside refl), (few_forced force _ few, (none_forced (is_missing s) force _ refl refl, (λ k. k, (λ k. k, (λ k. k, tt)))))))))
 
     module _ (content : Content) (is : IsContent text content) (no_fault : (e : ParseFault) → HasFault text e → ⊥) where
       put : Puts s set ((address c, Some content) ∷ [])
       put = (content, is, refl)
 
-      one_put : (q : List Put) → Puts s set q → q ≡ (address c, Some content) ∷ []
-      one_put q h = one_puts s force c text q ((address c, Some content) ∷ []) h put
-
-      later : (x : Cause) → IsFirstOf s set last x → IsFirstOf s set causes x
-      later x h = front x (inr (
-        no_fault parse.TooLong,
-        inr (
-          no_fault parse.OutOfSheet,
-          inr (
-            no_fault parse.NumberRange,
-            inr (no_fault parse.TooDeep, inr (no_fault parse.Syntax, inr (λ k. k, h))),
-          ),
-        ),
-      ))
-
-      only : (x : Cause) → Holds s x set → Holds s Stale set ⊎ (Holds s Full set ⊎ Holds s EditLimit set)
-      only BadCommand h = absurd (some h)
-      only Outside h = absurd (both_ways _ (not_outside force) h)
-      only TooLarge h = absurd (small force h)
-      only NoScenario h = absurd (both_ways _ (none_missing force) h)
-      only TooLong h = absurd (no_fault parse.TooLong h)
-      only OutOfSheet h = absurd (no_fault parse.OutOfSheet h)
-      only NumberRange h = absurd (no_fault parse.NumberRange h)
-      only TooDeep h = absurd (no_fault parse.TooDeep h)
-      only Syntax h = absurd (no_fault parse.Syntax h)
-      only Stale h = inl h
-      only Full h = inr (inl h)
-      only EditLimit h = inr (inr h)
-      only x h = absurd h
+      none_read : NoneHolds s set (drop 9 front)
+      none_read =
+          (no_fault parse.TooLong, (no_fault parse.OutOfSheet, (no_fault parse.NumberRange, (no_fault parse.TooDeep, (no_fault parse.Syntax, (λ k. k, tt))))))
 
       putting : IsStep s set (edit_answer s force (set_edit (address c) content))
       putting =
-          edit_step s set force (cell_area (address c) ∷ []) ((address c, Some content) ∷ []) put one_put refl refl (λ h. h) later only (λ d h. h)
+          edit_step s set force (cell_area (address c) ∷ []) ((address c, Some content) ∷ []) put (one_puts s force c text) refl refl (λ h. h)
+          (both_none s set (take 9 front) (drop 9 front) none_first none_read) (λ d h. h)
 
     -- the cause for a fault; memory is none, and `set` moves nothing
     abbrev cause_of : ParseFault → Cause
@@ -116,7 +75,7 @@ module _ (s : State) (force : Bool) (c : Cell) (text : List ℕ) (inside : is_ou
     by_content : (r : Result Content ParseFault) → IsAnsweredAs text r → IsStep s set (content_answer s force (address c) r)
     by_content (Ok content) h = putting content h.0 h.1
     by_content (Err parse.Memory) h = absurd (is_fault text faults parse.Memory h)
-    by_content (Err e) h = (cause_of e, front (cause_of e) (first_of faults e h), refl)
+    by_content (Err e) h = (cause_of e, behind_none s set (take 9 front) (drop 9 front ++ last) (cause_of e) none_first (first_of faults e h), refl)
 
 -- an empty text
 pub set_none : (s : State) (force : Bool) (c : Cell) → IsStep s (Set force c []) (Err refusal.BadCommand)
@@ -143,8 +102,6 @@ set_of s force a (b ∷ bs) h r is =
     let some : false ≡ (length (b ∷ bs) == 0) = grind (arith, nat_tests) in
     subst (λ (none : Bool). IsStep s (Set force (cell a) (b ∷ bs)) (set_answer s force a none r)) some (set_placed s force a b bs h r is)
 
--- ---- what `set` answers
-
 -- ---- a cell of the sheet
 
 module _ (s : State) (force : Bool) (at : ℕ) (text : List ℕ) (placed : IsPlaced at) where
@@ -170,18 +127,17 @@ module _ (s : State) (force : Bool) (at : ℕ) (text : List ℕ) (placed : IsPla
     put_grows (Err parse.TooLong) h = cc
     put_grows (Err e) h = refl
 
-    at_fault : (e : Refusal) (fault : ParseFault) → e ≡ parse_refusal fault → ReadsAs (content_read text) (Err fault) → MayRefuseFound e found
-    at_fault e parse.Memory same h =
-        subst (λ (x : Refusal). MayRefuseFound x found) (sym same) (ap may_grow (found_is (content_read text) refl) ∙ put_grows (content_read text) h)
-    at_fault e fault same h = subst (λ (x : Refusal). MayRefuseFound x found) (sym same) (found_is (Err fault) h)
+    at_fault : (fault : ParseFault) → ReadsAs (content_read text) (Err fault) → MayRefuse (parse_refusal fault) (IsStep s (Set force (cell at) text))
+    at_fault parse.Memory h =
+        record { answer = found; is_answer = set_found; grows = ap may_grow (found_is (content_read text) refl) ∙ put_grows (content_read text) h }
+    at_fault fault h = subst (IsStep s (Set force (cell at) text)) (found_is (Err fault) h) set_found
 
     -- it can't be read
     pub set_refused : (r : Result (Unit {0}) Refusal) (fault : ParseFault) → IsErrAnd r (λ e. e ≡ parse_refusal fault) → ReadsAs (content_read text) (Err fault)
         → Serves (IsStep s (Set force (cell at) text)) r s s []
     set_refused r fault k h =
-        let p = err_from_is_err_and r k in
-        subst (λ (x : Result (Unit {0}) Refusal). Serves (IsStep s (Set force (cell at) text)) x s s []) (sym p.1)
-        (serves (IsStep s (Set force (cell at) text)) found set_found (Err p.0) s s [] (at_fault p.0 fault p.2 h, refl, refl))
+        ends_so (λ (x : Result (Unit {0}) Refusal). Serves (IsStep s (Set force (cell at) text)) x s s []) (parse_refusal fault) r k
+        (at_fault fault h, refl, refl)
 
     -- it is read, and put into the cell
     pub set_edited : (r : Result (Unit {0}) Refusal) (t : State) (content : Content) (e : Edit) → content_read text ≡ Ok content → e ≡ set_edit at content

@@ -1,8 +1,9 @@
 -- When an edit is refused for a stale cell.
-use Rattle.wi_scenarios.proofs.Words.{◌≡◌, ◌≢◌, ◌∙◌, ℕ, zero, suc, ◌+◌, ◌<◌, ◌≤◌, ◌⊎◌, inl, inr, Bool, true, false, ◌&&◌, List, [], ◌∷◌, ◌++◌, map, max, Option, Some, None, Ok, Err, refl, sym, ap, subst, arith, and_parts, and_from, both_ways, cases_eq, cases_lt, or_cases, false≢true, none-some, Area, is_within, within_between, Entry, is_within_one, first_stale, IsFirst, entries_in, is_wanted_of_others, only_first, stale_is_first, Refusal, State, Answer, Event, MayHappen, MayFollow, state_after, IsCoherent, is_changes, named_by, edits_since, unseen, is_newer, IsFirstNewer, counts_before, is_refused_before, StaleIsNewer, ForcedIsNotStale, Command, named, is_forced, Cause, BadLine, BadCommand, CutShort, Outside, TooLarge, NoScenario, InUse, TooMany, BadField, TooLong, OutOfSheet, NumberRange, TooDeep, Syntax, LeavesSheet, Stale, Loop, Full, EditLimit, Holds, stale_cell, Tells, IsStep, causes, IsFirstOf, ◌↔◌, list_all}
+use Rattle.wi_scenarios.proofs.Words.{◌≡◌, ◌≢◌, ◌∙◌, ℕ, zero, suc, ◌+◌, ◌<◌, ◌≤◌, ◌⊎◌, inl, inr, Bool, true, false, ◌&&◌, List, [], ◌∷◌, ◌++◌, map, max, Option, Some, None, Ok, Err, refl, sym, ap, subst, arith, and_parts, and_from, both_ways, cases_eq, cases_lt, or_cases, false≢true, none-some, Area, is_within, within_between, Entry, is_within_one, first_stale, IsFirst, entries_in, is_wanted_of_others, only_first, stale_is_first, Refusal, State, Answer, Event, MayHappen, MayFollow, state_after, IsCoherent, is_changes, named_by, edits_since, unseen, is_newer, IsFirstNewer, counts_before, is_refused_before, StaleIsNewer, ForcedIsNotStale, Command, named, is_forced, Cause, Stale, Loop, Full, EditLimit, Holds, stale_cell, Tells, IsStep, causes, IsFirstOf, ◌↔◌, list_all, same_Some}
 use Rattle.wi_edit_log.specs.declared.edit.Edit.{Edit}
 use Rattle.wi_scenarios.specs.declared.refusal.Refusal.TheVariants as refusal
 use Rattle.wi_scenarios.proofs.CauseTests.{first_holds}
+use Rattle.wi_scenarios.proofs.EditLemmas.{front}
 use Rattle.wi_scenarios.proofs.EventLemmas.{TellsAndLogs, log_grows}
 use Rattle.wi_scenarios.proofs.RunLemmas.{tells_and_logs}
 
@@ -109,12 +110,6 @@ module _ {C : Type 0} (IsStep : State → C → Answer → Type 0) (is_changes :
 
 -- ---- the order of causes
 
-refused_so : (e f : Refusal) → ◌≡◌ {A = Answer} (Err e) (Err f) → e ≡ f
-refused_so e f h = cc
-
-one_cell : (a b : ℕ) → ◌≡◌ {A = Refusal} (refusal.Stale a) (refusal.Stale b) → a ≡ b
-one_cell a b h = cc
-
 module _ (s : State) (c : Command) where
   -- no other cause is told so
   stale_only : (x : Cause) (a : ℕ) → Tells s c x (refusal.Stale a) → x ≡ Stale
@@ -137,35 +132,29 @@ module _ (s : State) (c : Command) where
   counts x b e t = ap counts_before t
 
   -- where the cause y holds, the first that holds is in front of it, or is y
-  at_most : (front : List Cause) (y : Cause) (rest : List Cause) → list_all is_before front ≡ true → Holds s y c → (x : Cause) → IsFirstOf s c (front ++ y ∷ rest) x
+  at_most : (xs : List Cause) (y : Cause) (rest : List Cause) → list_all is_before xs ≡ true → Holds s y c → (x : Cause) → IsFirstOf s c (xs ++ y ∷ rest) x
       → (is_before x ≡ true) ⊎ (x ≡ y)
   at_most [] y rest all h x (inl k) = inr k.1
   at_most [] y rest all h x (inr k) = absurd (k.0 h)
   at_most (z ∷ zs) y rest all h x (inl k) = inl (ap is_before k.1 ∙ (and_parts (is_before z) (list_all is_before zs) all).0)
   at_most (z ∷ zs) y rest all h x (inr k) = at_most zs y rest (and_parts (is_before z) (list_all is_before zs) all).1 h x k.1
 
-  abbrev front : List Cause
-  front =
-      BadLine ∷ BadCommand ∷ CutShort ∷ Outside ∷ TooLarge ∷ NoScenario ∷ InUse ∷ TooMany ∷ BadField ∷ TooLong ∷ OutOfSheet ∷ NumberRange ∷ TooDeep ∷ Syntax ∷ LeavesSheet ∷ []
-
   is_stale : (b : Answer) (a : ℕ) → IsStep s c b → b ≡ Err (refusal.Stale a) → stale_cell s c ≡ Some a
   is_stale b a h e =
       let k = subst (IsStep s c) e h in
       let t = subst (λ (x : Cause). Tells s c x (refusal.Stale a)) (stale_only k.0 a k.2) k.2 in
-      t.1 ∙ ap Some (sym (one_cell a t.0 t.2))
+      let told = t.2 in
+      let at : t.0 ≡ a = cc in t.1 ∙ ap Some at
 
   told_stale : (b : Answer) (a : ℕ) → IsStep s c b → is_forced c ≡ false → is_refused_before b ≡ false → stale_cell s c ≡ Some a → b ≡ Err (refusal.Stale a)
   told_stale (Ok done) a h free f e = absurd (h.0 Stale (free, λ n. none-some a (sym n ∙ e)))
   told_stale (Err d) a h free f e = by (at_most front Stale (Loop ∷ Full ∷ EditLimit ∷ []) refl (free, λ n. none-some a (sym n ∙ e)) h.0 h.1)
     where
-      one : (b : ℕ) → ◌≡◌ {A = Option ℕ} (Some b) (Some a) → b ≡ a
-      one b k = cc
-
       by : (is_before h.0 ≡ true) ⊎ (h.0 ≡ Stale) → ◌≡◌ {A = Answer} (Err d) (Err (refusal.Stale a))
       by (inl k) = absurd (both_ways (counts_before d) f (counts h.0 k d h.2))
       by (inr k) =
           let t = subst (λ (x : Cause). Tells s c x d) k h.2 in
-          ap (λ (x : Refusal). let z : Answer = Err x in z) (t.2 ∙ ap refusal.Stale (one t.0 (sym t.1 ∙ e)))
+          ap (λ (x : Refusal). let z : Answer = Err x in z) (t.2 ∙ ap refusal.Stale (same_Some t.0 a (sym t.1 ∙ e)))
 
   forced_not : (b : Answer) (a : ℕ) → IsStep s c b → is_forced c ≡ true → b ≢ Err (refusal.Stale a)
   forced_not b a h forced e =
@@ -189,7 +178,4 @@ stale_is_newer s es e settled run h free f a = by h
 
 pub forced_is_not_stale : (s : State) (e : Event Command) → ForcedIsNotStale IsStep is_forced s e
 forced_is_not_stale s e (inl h) forced a x = forced_not s e.command e.answer a h forced x
-forced_is_not_stale s e (inr h) forced a x = other (refused_so refusal.Memory (refusal.Stale a) (sym h ∙ x))
-  where
-    other : ◌≡◌ {A = Refusal} refusal.Memory (refusal.Stale a) → ⊥
-    other k = cc
+forced_is_not_stale s e (inr h) forced a x = let n : ⊥ = cc in n

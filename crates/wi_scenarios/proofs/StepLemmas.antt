@@ -1,11 +1,12 @@
 -- A command has one answer.
-use Rattle.wi_scenarios.proofs.Words.{◌≡◌, ◌∙◌, Bool, true, false, ◌||◌, List, ℕ, nat_lt, [], ◌∷◌, Option, Some, None, Ok, Err, if◌then◌else◌, refl, sym, Value, imported, imported_exactly, content_read, content_is_one, max_area, size_of, State, Answer, Command, Set, Clear, Fill, Csv, Scenario, Unknown, Unreadable, Cell, CornerCells, is_outside, address, area, Cause, BadLine, BadCommand, TooLong, Holds, Does, IsStep}
+use Rattle.wi_scenarios.proofs.Words.{◌≡◌, ◌∙◌, Bool, true, false, ◌||◌, List, ℕ, nat_lt, [], ◌∷◌, Option, Some, None, Ok, Err, if◌then◌else◌, refl, sym, Value, imported, imported_exactly, content_read, content_is_one, max_area, size_of, State, Answer, Command, Set, Clear, Fill, Csv, Scenario, Unknown, Unreadable, Cell, CornerCells, is_outside, address, area, Cause, BadLine, BadCommand, TooLong, Holds, Does, IsStep, fields, copy_in, cells_of, one_list}
 use Rattle.wi_scenarios.specs.declared.refusal.Refusal.TheVariants as refusal
-use Rattle.wi_scenarios.proofs.CauseTests.{DoesOne, one_answer, refusal_for, EditsNone, first_found, refused_for, free, accepted}
-use Rattle.wi_scenarios.proofs.SetSteps.{content_answer, set_none, set_some, one_done as set_done}
-use Rattle.wi_scenarios.proofs.ClearSteps.{cleared, clear_step, one_done as clear_done}
-use Rattle.wi_scenarios.proofs.FillSteps.{fill_edit, leaves, filled_by, fill_step, fill_out, one_done as fill_done}
-use Rattle.wi_scenarios.proofs.CsvSteps.{csv_some, csv_bare, one_done as csv_done}
+use Rattle.wi_scenarios.proofs.CauseTests.{DoesOne, one_answer, EditsNone, first_found, refused_by, free, accepted}
+use Rattle.wi_scenarios.proofs.EditLemmas.{one_edit}
+use Rattle.wi_scenarios.proofs.SetSteps.{content_answer, set_none, set_some, one_puts as set_one}
+use Rattle.wi_scenarios.proofs.ClearSteps.{cleared, clear_step}
+use Rattle.wi_scenarios.proofs.FillSteps.{fill_edit, leaves, filled_by, fill_step, fill_out, one_puts as fill_one}
+use Rattle.wi_scenarios.proofs.CsvSteps.{csv_some, csv_bare}
 use Rattle.wi_scenarios.proofs.ScenarioSteps.{put_state, one_put}
 
 fill_some : (s : State) (force : Bool) (c : Cell) (r : CornerCells) (one two : Bool) → is_outside c ≡ one → (is_outside r.0 || is_outside r.1) ≡ two → (a : Answer) × IsStep s (Fill force c r) a
@@ -37,7 +38,7 @@ answer_of : (s : State) (c : Command) → EditsNone c → (a : Answer) × IsStep
 answer_of s c u = by (first_found s c) refl
   where
     by : (o : Option Cause) → first_found s c ≡ o → (a : Answer) × IsStep s c a
-    by (Some x) e = (Err (refusal_for x), refused_for s c u x e)
+    by (Some x) e = refused_by s c u x e
     by None e = let d = some_done s c u (free s c u e) in (Ok d.0, accepted s c u e d.0 d.1)
 
 pub an_answer : (s : State) (c : Command) → (a : Answer) × IsStep s c a
@@ -54,11 +55,11 @@ an_answer s (Csv force (Some c) n lines) = csv_some s force c n lines
 an_answer s c = answer_of s c tt
 
 does_one : (s : State) (c : Command) → DoesOne s c
-does_one s (Set force c text) = set_done s force c text
-does_one s (Clear force r) = clear_done s force r
-does_one s (Fill force c r) = fill_done s force c r
+does_one s (Set force c text) = one_edit s (Set force c text) (set_one s force c text)
+does_one s (Clear force r) = one_edit s (Clear force r) (λ p q h k. h ∙ sym k)
+does_one s (Fill force c r) = one_edit s (Fill force c r) (fill_one (copy_in s (address c)) (cells_of (area r)))
 does_one s (Csv force None n lines) = λ x y h k. absurd h.1
-does_one s (Csv force (Some c) n lines) = csv_done s force c n lines
+does_one s (Csv force (Some c) n lines) = one_edit s (Csv force (Some c) n lines) (one_list (fields c lines))
 does_one s (Scenario name c []) = λ x y h k. h ∙ sym k
 does_one s (Scenario name c (b ∷ bs)) = one_put s name c b bs
 does_one s Unknown = λ x y h k. absurd h.1

@@ -1,5 +1,5 @@
 -- That a switch to other scenarios keeps what sessions are shown.
-use Rattle.wi_scenarios.proofs.Words.{◌≡◌, ◌==◌, ℕ, ◌<◌, Bool, true, false, not, ◌||◌, ◌&&◌, List, [], ◌∷◌, length, get_or, refl, sym, ap, ◌∙◌, subst, arith, false≢true, nat_tests, list_any_at, Replacement, IsInOrder, replaced, Sheet, shown, IsMarking, outside_unmoved, last_in_order, is_one_of, Differs, AreDiffering, HasRoom, ◌≢◌, ◌⊎◌, inl, inr, ◌≤◌, Option, slice_index_or, slice_set, or-false, or_left, or_parts, or_cases, get_or-set_same, get_or-set_other, length-set, Value, Stored, Kept, effective, value_in, Session, new_session, max_sessions, using_scenario, Roster, session_at, pending_of, vacant_of, State, IsMarked, IsTouched, AddsOnly, SameForOthers, Desk, state_of, pending_in, AreCovered, AreClosed, IsSound, HasRoomFor, Ok, Err, AllocError, MakesSound}
+use Rattle.wi_scenarios.proofs.Words.{◌≡◌, ◌==◌, ℕ, ◌<◌, Bool, true, false, not, ◌||◌, ◌&&◌, List, [], ◌∷◌, length, get_or, refl, sym, ap, ◌∙◌, subst, arith, false≢true, nat_tests, Replacement, IsInOrder, replaced, Sheet, shown, IsMarking, outside_unmoved, last_in_order, is_one_of, Differs, AreDiffering, HasRoom, ◌≢◌, ◌⊎◌, inl, inr, ◌≤◌, Option, slice_index_or, slice_set, or-false, or_left, or_parts, or_cases, get_or-set_same, get_or-set_other, length-set, Value, Stored, Kept, effective, value_in, Session, new_session, max_sessions, using_scenario, Roster, session_at, pending_of, vacant_of, State, IsMarked, IsTouched, AddsOnly, SameForOthers, Desk, state_of, pending_in, AreCovered, AreClosed, IsSound, HasRoomFor, Ok, Err, AllocError, MakesSound, has_at}
 
 -- ---- no replacement is another
 
@@ -12,13 +12,19 @@ none_listed : (xs : List ℕ) → length xs ≡ 0 → (a : ℕ) → is_one_of xs
 none_listed [] e a = refl
 none_listed (x ∷ xs) e a = absurd (omega (arith, e))
 
-pub none_differs : (marked : Sheet → List ℕ → ℕ → Bool) (sheet : Sheet) (before after : List Replacement) (cells pending vacant : List ℕ)
-    → IsInOrder before → IsInOrder after → AreDiffering before after cells → length cells ≡ 0 → vacant ≡ [] → HasRoom marked sheet before after pending vacant
-none_differs marked sheet before after cells pending vacant first second found none empty = record {
+-- where a list shows what another one shows, no room is wanted
+bare : (marked : Sheet → List ℕ → ℕ → Bool) (sheet : Sheet) (before after : List Replacement) (pending vacant : List ℕ)
+    → vacant ≡ [] → ((a : ℕ) → shown sheet before a ≡ shown sheet after a) → HasRoom marked sheet before after pending vacant
+bare marked sheet before after pending vacant empty same = record {
   marks = λ a h. absurd (false≢true (sym (ap (λ (xs : List ℕ). is_one_of xs a) empty) ∙ h));
   further = λ a c h m. absurd (false≢true (sym (ap (λ (xs : List ℕ). is_one_of xs a) empty) ∙ h));
-  others = λ a h k. shown_alike sheet before after a first second (λ d. found.others d (none_listed cells none d));
+  others = λ a h k. same a;
 }
+
+pub none_differs : (marked : Sheet → List ℕ → ℕ → Bool) (sheet : Sheet) (before after : List Replacement) (cells pending vacant : List ℕ)
+    → IsInOrder before → IsInOrder after → AreDiffering before after cells → length cells ≡ 0 → vacant ≡ [] → HasRoom marked sheet before after pending vacant
+none_differs marked sheet before after cells pending vacant first second found none empty =
+    bare marked sheet before after pending vacant empty (λ a. shown_alike sheet before after a first second (λ d. found.others d (none_listed cells none d)))
 
 -- ---- some are
 
@@ -36,12 +42,6 @@ left_false true true h e = cc
 left_false true false h e = cc
 left_false false y h e = refl
 
-all_differ : (before after : List Replacement) (cells : List ℕ) → AreDiffering before after cells → (k d : ℕ) → k < length cells → Differs before after (get_or cells k d)
-all_differ before after cells found k d l =
-    let a : ℕ = get_or cells k d in
-    let itself : (a == a) ≡ true = grind (arith, nat_tests) in
-    found.each a (list_any_at (λ (c : ℕ). c == a) cells k d l itself)
-
 pub some_differ : (marked : Sheet → List ℕ → ℕ → Bool) (law : IsMarking marked) (sheet : Sheet) (before after : List Replacement) (cells told pending vacant vacant' : List ℕ)
     → IsInOrder before → IsInOrder after → AreDiffering before after cells → 0 < length cells → vacant ≡ []
     → ((c : ℕ) → is_one_of told c ≡ marked sheet cells c)
@@ -51,7 +51,7 @@ some_differ marked law sheet before after cells told pending vacant vacant' firs
   marks = λ a h. record {
     cells = cells;
     some = some;
-    touched = λ k d l. all_differ before after cells found k d l;
+    touched = λ k d l. found.each (get_or cells k d) (has_at cells k (get_or cells k d) d l refl);
     has = it_is a h;
   };
   further = λ a c h m. told_has (is_one_of pending c) (is_one_of vacant' c) (is_one_of told c) (now c) (marks c ∙ law.further sheet cells a c (it_is a h) m);
@@ -76,8 +76,6 @@ room_marked marked law sheet before after cells lent found told pending vacant v
     some_differ marked law sheet before after lent told pending vacant vacant' first second
     (subst (AreDiffering before after) (sym e) differ) (subst (λ (xs : List ℕ). 0 < length xs) (sym e) some) empty
     (λ c. ap (λ (xs : List ℕ). is_one_of xs c) t ∙ marks c) room
-
--- ---- what holds after a session was switched: the pending cells that were added are marked, and of all others the picture is right
 
 -- ---- nothing is switched
 
@@ -200,14 +198,6 @@ scenarios_switched marked stored d e mid sessions pending room after lists took 
 
 -- ---- the current session uses another scenario
 
--- nothing is to be marked where the replacements are the same
-same_room : (marked : Sheet → List ℕ → ℕ → Bool) (sheet : Sheet) (p : List Replacement) (pending vacant : List ℕ) → vacant ≡ [] → HasRoom marked sheet p p pending vacant
-same_room marked sheet p pending vacant empty = record {
-  marks = λ a h. absurd (false≢true (sym (ap (λ (xs : List ℕ). is_one_of xs a) empty) ∙ h));
-  further = λ a c h m. absurd (false≢true (sym (ap (λ (xs : List ℕ). is_one_of xs a) empty) ∙ h));
-  others = λ a h k. refl;
-}
-
 module _ (marked : Sheet → List ℕ → ℕ → Bool) (stored : Stored) (d e : Desk) (mid : Roster) (name : Option (List ℕ)) (h : IsSound marked stored d)
     (room : HasRoom marked stored.sheet (effective d.scenarios (session_at d.sessions d.current).scenario) (effective d.scenarios name) (pending_of d.sessions d.current) (vacant_of mid d.current))
     (others : (j : ℕ) → j ≢ d.current → vacant_of mid j ≡ vacant_of d.sessions j)
@@ -243,7 +233,7 @@ module _ (marked : Sheet → List ℕ → ℕ → Bool) (stored : Stored) (d e :
       let other : j ≢ d.current = grind (arith, nat_tests, t) in
       subst (λ (rs : List Replacement). HasRoom marked stored.sheet (effective d.scenarios (session_at d.sessions j).scenario) rs (pending_of d.sessions j) (vacant_of mid j))
       (sym (ap (λ (xs : List Kept). effective xs (session_at e.sessions j).scenario) scenarios ∙ ap (λ (x : Session). effective d.scenarios x.scenario) (elsewhere j other)))
-      (same_room marked stored.sheet (effective d.scenarios (session_at d.sessions j).scenario) (pending_of d.sessions j) (vacant_of mid j) (others j other ∙ h.full j))
+      (let own = effective d.scenarios (session_at d.sessions j).scenario in bare marked stored.sheet own own (pending_of d.sessions j) (vacant_of mid j) (others j other ∙ h.full j) (λ a. refl))
 
   pub current_switched : length e.sessions.pending ≡ length d.sessions.pending
       → ((i a : ℕ) → is_one_of (pending_of e.sessions i) a ≡ (is_one_of (pending_of d.sessions i) a || is_one_of (vacant_of mid i) a))

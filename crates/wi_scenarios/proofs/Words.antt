@@ -13,7 +13,7 @@ pub use Rattle.std.proofs.lemmas.List.FromFn.{map-range_with_len_more}
 pub use Rattle.std.proofs.lemmas.Map.Entries.{length-keys_of}
 pub use Rattle.std.proofs.lemmas.Map.Views.{any-filter_same}
 pub use Rattle.std.proofs.lemmas.Option.{none-some, same_Some}
-pub use Rattle.std.proofs.lemmas.Result.{IfOk-from_err, IfOk-weaker, err_from_is_err_and, on_ok_weaker}
+pub use Rattle.std.proofs.lemmas.Result.{IfOk-weaker, err_from_is_err_and, on_ok_weaker}
 pub use Rattle.std.proofs.lemmas.Slice.Eq.{bytes_eq-Decides}
 pub use Rattle.std.specs.List.{All, AllByRecursion, AllZip, Any, find, flat_map, list_all, list_any, position_or_len, range_with_len, slice_index_or, slice_set}
 pub use Rattle.std.specs.Map.{keys_of}
@@ -65,28 +65,24 @@ unfoldable pub use Rattle.wi_scenario_list.specs.Scenarios.{chain}
 pub use Rattle.wi_scenario_list.specs.Inner.Parts.{scenario_or_new}
 pub use Rattle.wi_scenario_list.specs.Scenarios.{Scenario as Kept, chain_within, has_scenario, is_full, is_named, layered, max_scenarios, scenario_for, scenario_of, with_own, with_scenario, without_own, without_scenario}
 pub use Rattle.wi_scenarios.specs.Answer.{Answer, MayGrow, MayRefuse, MayRefuseData, Serves, ServesData, field_refusal, import_refusal, may_grow, parse_refusal, shift_refusal}
-pub use Rattle.wi_scenarios.specs.Asked.{asked_by_compare, asked_by_show, asked_by_table}
-pub use Rattle.wi_scenarios.specs.Changes.{change_list}
 pub use Rattle.wi_scenarios.specs.Commands.Causes.{BadCommand, BadField, BadLine, Cause, CutShort, EditLimit, Full, Holds, InUse, LeavesSheet, Loop, NoScenario, NumberRange, OutOfSheet, Outside, Stale, Syntax, TooDeep, TooLarge, TooLong, TooMany, is_bent, is_missing, lies_outside, cells_asked, stale_cell}
-pub use Rattle.wi_scenarios.specs.Commands.Command.{As, Base, Changes, Clear, Command, Compare, Csv, Drop, Export, Fill, Formula, Scenario, Set, Show, Table, Unknown, Unreadable, Use, form}
+pub use Rattle.wi_scenarios.specs.Commands.Command.{As, Base, Changes, Clear, Command, Compare, Csv, Drop, Export, Fill, Formula, Scenario, Set, Show, Table, Unknown, Unreadable, Use, form, may_force}
 pub use Rattle.wi_scenarios.specs.Commands.DataLines.{max_line, without_lf}
 pub use Rattle.wi_scenarios.specs.Commands.Does.{Does, state_with}
-pub use Rattle.wi_scenarios.specs.Commands.Operands.{Cell, CornerCells, RECT, SIDE, address, area, cell, corners, is_outside, second_input}
+pub use Rattle.wi_scenarios.specs.Commands.Operands.{Cell, CornerCells, Operand, WORD, address, area, cell, corners, is_outside, second_input}
 pub use Rattle.wi_scenarios.specs.Commands.Step.{IsFirstOf, IsImportStep, IsStep, Tells, causes}
 pub use Rattle.wi_scenarios.specs.Events.{Event, ForcedIsNotStale, IsCoherent, IsFirstNewer, KeepsApart, ListsAddUp, LogGrows, MayFollow, MayHappen, RecordsTellList, StaleIsNewer, StaysCoherent, change_fields, counts_before, edits_in, edits_since, is_accepted_changes, is_newer, is_refused_before, is_told, last_shown, left_by, lists_told, logged, logged_by, state_after, unseen, with_lists}
-pub use Rattle.wi_scenarios.specs.Inner.Copies.{AreCopies, CopiesAs, HasNoCopies, columns_between, copy_to, has_no_copy, or_nothing, rows_between}
-pub use Rattle.wi_scenarios.specs.Inner.EditAnswer.{Edit, answer_by, edit_answer, limit_of, stale_in, with_stored}
-pub use Rattle.wi_scenarios.specs.Inner.Calls.{Edits, IsAs, IsChanges, IsDrop, IsEditBy, IsImport, IsMade, Looks, ServesInto}
-pub use Rattle.wi_scenarios.specs.Inner.Editing.{AreMarked, Commits, HasRooms, MayFail, SameBeside}
+pub use Rattle.wi_scenarios.specs.Inner.Copies.{AreCopies, CopiesAs, HasNoCopies, has_no_copy, or_nothing}
+pub use Rattle.wi_scenarios.specs.Inner.Calls.{Edits, IsDrop, IsMade, Looks, ServesInto}
+pub use Rattle.wi_scenarios.specs.Inner.Editing.{AreMarked, Commits, Edit, HasRooms, IsTold, MayFail, SameBeside, answer_by, edit_answer, limit_of, stale_in}
 pub use Rattle.wi_scenarios.specs.Inner.Placed.{IsSpanned, IsPlaced, IsTablePlaced}
 pub use Rattle.wi_scenarios.specs.Inner.Sound.{AreClosed, AreCovered, IsClosed, IsSound, IsUpToDate, MakesSound, ServesSound, book_by, book_of, pending_in, state_of}
 pub use Rattle.wi_scenarios.specs.Inner.Switch.{AreDiffering, Differs, HasRoom, HasRoomFor, differing, same_option}
-pub use Rattle.wi_scenarios.specs.Inner.Told.{IsTold}
-pub use Rattle.wi_scenarios.specs.Commands.Edits.{Put, Puts, after_edit, copied, copy_in, fields, is_forced, named, sheet_with}
+pub use Rattle.wi_scenarios.specs.Commands.Edits.{Put, Puts, after_edit, copied, copy_in, copy_to, fields, is_forced, named, sheet_with, with_stored}
 pub use Rattle.wi_scenarios.specs.Laws.{GivesChain, HasScenarioChanged, IsEdited, KeepsChains, Leaves, is_changes, named_by}
 pub use Rattle.wi_scenarios.specs.Pending.{AddsOnly, Book, IsMarked, IsTouched, SameForOthers, is_pending, counts, imported_cells, occupied_cells, occupied_in}
 pub use Rattle.wi_scenarios.specs.State.{State, max_area, state_over}
-pub use Rattle.wi_scenarios.specs.Views.{current_replacements, current_session, shown_to, with_current}
+pub use Rattle.wi_scenarios.specs.Views.{change_list, current_replacements, current_session, shown_to, with_current}
 pub use Rattle.wi_scenarios.specs.declared.desk.Desk.{Desk}
 pub use Rattle.wi_scenarios.specs.declared.refusal.Refusal.{Refusal}
 pub use Rattle.wi_scenarios.specs.declared.refusal.Refusal.TheVariants.{Memory}
@@ -108,9 +104,8 @@ pub use Rattle.wi_store.specs.declared.fault.StoreFault.{StoreFault}
 pub use Rattle.wi_values.proofs.Equal.{same_replacement_Decides}
 pub use Rattle.wi_values.proofs.Fields.{numbers_read_back}
 pub use Rattle.wi_values.proofs.Imports.{imported_exactly}
-pub use Rattle.wi_values.proofs.Listed.{has-filter}
+pub use Rattle.wi_values.proofs.Listed.{has-filter, has_at}
 pub use Rattle.wi_values.proofs.Lists.{Any-weaker, left_more}
-pub use Rattle.wi_values.proofs.Order.{is_itself}
 pub use Rattle.wi_values.proofs.Outcomes.{on_err}
 pub use Rattle.wi_values.proofs.ReadsBack.{addresses_read_back}
 pub use Rattle.wi_values.proofs.Small.{any_in_range}
@@ -119,7 +114,6 @@ pub use Rattle.wi_values.specs.Address.{Area, address_text, cells_of, cells_of_r
 pub use Rattle.wi_values.specs.AddressReading.{read_address}
 pub use Rattle.wi_values.specs.Imported.{IsImported}
 pub use Rattle.wi_values.specs.Inner.Import.{imported}
-pub use Rattle.wi_values.specs.Name.{bytes_of}
 pub use Rattle.wi_values.specs.Replacements.{IsInOrder, replaced}
 pub use Rattle.wi_values.specs.Value.{error_name, logical_name}
 unfoldable pub use Rattle.wi_values.specs.Value.{shown_text}
@@ -130,3 +124,4 @@ pub use Rattle.wi_values.specs.declared.value.ErrorKind.{ErrorKind}
 pub use Rattle.wi_values.specs.declared.value.ErrorKind.TheVariants.{BadNumber, BadReference, BadValue, Circular, DivisionByZero, NotAvailable, UnknownName}
 pub use Rattle.wi_values.specs.declared.value.Value.{Value}
 pub use Rattle.wi_values.specs.declared.value.Value.TheVariants.{Empty, Fault, Logical, Number, Text}
+pub use Rattle.std.proofs.lemmas.List.Sums.{prefix_len-le-length}

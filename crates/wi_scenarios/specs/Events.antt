@@ -1,21 +1,10 @@
 -- Commands one after another, each with its answer, and what holds of them: of the calls of a workbook as of the
 -- commands of a script. What differs between these are the parameters: which answers a command has, which one asks for
 -- the change list, and what an edit names.
-use Rattle.std.specs.Prelude.{◌≡◌, ◌≢◌, ◌↔◌, ◌⊎◌, ◌==◌, ◌&&◌, ℕ, ◌<◌, ◌≤◌, Bool, true, false, not, if◌then◌else◌, List, [], ◌∷◌, ◌++◌, length, drop, map, Option, Some, None, Ok, Err}
-use Rattle.std.specs.List.{list_any}
-use Rattle.wi_values.specs.Address.{address_text, Area, is_within_one}
+use Rattle.wi_scenarios.specs.Words.{◌≡◌, ◌≢◌, ◌↔◌, ◌⊎◌, ◌==◌, ◌&&◌, ℕ, ◌<◌, ◌≤◌, Bool, true, false, not, if◌then◌else◌, List, [], ◌∷◌, ◌++◌, length, drop, map, Option, Some, None, Ok, Err, list_any, address_text, Area, is_within_one, Value, recs, Entry, sheet_size, value_in, with_changes, kind_text, Refusal, State, session_at, shown_to, change_list}
 use Rattle.wi_values.specs.Value.{shown_text}
-use Rattle.wi_values.specs.declared.value.Value.{Value}
-use Rattle.wi_csv.specs.Records.{recs}
-use Rattle.wi_edit_log.specs.EditLog.{Entry}
-use Rattle.wi_sessions.specs.Pictures.{sheet_size, value_in, with_changes}
-use Rattle.wi_reports.specs.Changes.{kind_text}
-use Rattle.wi_scenarios.specs.declared.refusal.Refusal.{Refusal}
 use Rattle.wi_scenarios.specs.declared.refusal.Refusal.TheVariants.{Memory, Full, EditLimit, Stale, Loop}
-use Rattle.wi_scenarios.specs.State.{State}
-use Rattle.wi_scenarios.specs.Views.{session_at, shown_to}
 use Rattle.wi_scenarios.specs.Answer.{Answer}
-use Rattle.wi_scenarios.specs.Changes.{change_list}
 
 -- ---- events
 

@@ -1,9 +1,7 @@
 -- Words of the code's own contracts. Nothing here needs belief.
 pub mod Copies
-pub mod EditAnswer
 pub mod Editing
 pub mod Calls
 pub mod Sound
 pub mod Switch
-pub mod Told
 pub mod Placed

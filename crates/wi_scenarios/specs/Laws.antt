@@ -1,13 +1,7 @@
 -- What a command leaves, and what the laws of `Events` are told of commands: which one asks for the change list, and
 -- what edits name.
-use Rattle.std.specs.Prelude.{◌≡◌, ◌≢◌, ℕ, Bool, true, false, if◌then◌else◌, List, [], ◌∷◌, ◌++◌, length, Option, Some, None}
-use Rattle.wi_values.specs.Address.{Area}
-use Rattle.wi_scenario_list.specs.Scenarios.{chain, scenario_of}
+use Rattle.wi_scenarios.specs.Words.{◌≡◌, ◌≢◌, ℕ, Bool, true, false, List, [], ◌∷◌, ◌++◌, length, Option, Some, None, Area, chain, scenario_of, told, using_scenario, with_session, index_of, State, current_session, with_current, change_list}
 use Rattle.wi_scenario_list.specs.Bases.{HasChains, IsChain}
-use Rattle.wi_sessions.specs.Sessions.{told, using_scenario, with_session, index_of}
-use Rattle.wi_scenarios.specs.State.{State}
-use Rattle.wi_scenarios.specs.Views.{current_session, with_current}
-use Rattle.wi_scenarios.specs.Changes.{change_list}
 use Rattle.wi_scenarios.specs.Events.{Event, MayFollow, state_after}
 use Rattle.wi_scenarios.specs.Commands.Command.{Command, Set, Clear, Fill, Csv, Scenario, Drop, Base, Use, As, Changes}
 use Rattle.wi_scenarios.specs.Commands.Edits.{named}
@@ -51,16 +45,13 @@ abbrev pub is_changes : Command → Bool
 is_changes Changes = true
 is_changes c = false
 
-abbrev pub is_edit : Command → Bool
-is_edit (Set force at text) = true
-is_edit (Clear force rect) = true
-is_edit (Fill force at rect) = true
-is_edit (Csv force at n lines) = true
-is_edit c = false
-
 -- the rectangles that an edit names; no other command is an edit
 abbrev pub named_by : Command → Option (List Area)
-named_by c = if is_edit c then Some (named c) else None
+named_by (Set force at text) = Some (named (Set force at text))
+named_by (Clear force rect) = Some (named (Clear force rect))
+named_by (Fill force at rect) = Some (named (Fill force at rect))
+named_by (Csv force at n lines) = Some (named (Csv force at n lines))
+named_by c = None
 
 -- ---- chains
 

@@ -1,10 +1,9 @@
 pub mod State
 pub mod Views
+pub mod Words
 pub mod Answer
 pub mod Commands
-pub mod Changes
 pub mod Events
 pub mod Laws
 pub mod Pending
-pub mod Asked
 pub mod Inner

@@ -1,17 +1,8 @@
 -- What a workbook is seen as, and which cells may be pending for its sessions: those that may differ from what they
--- were shown.
-use Rattle.std.specs.Prelude.{◌≡◌, ◌≢◌, ℕ, ◌<◌, ◌⊎◌, ◌++◌, ◌∷◌, Bool, true, ◌-◌, List, [], All, filter, map, length}
-use Rattle.std.specs.List.{slice_index_or, slice_set}
-use Rattle.std.specs.Map.{keys_of}
-use Rattle.wi_values.specs.Address.{Area, is_one_of, is_within}
-use Rattle.wi_values.specs.Replacements.{replaced}
-use Rattle.wi_parser.specs.Sheet.{Sheet}
-use Rattle.wi_import.specs.Fields.{fields_at}
+-- were shown; and the cases for which a command asks the calculator.
+use Rattle.wi_scenarios.specs.Words.{◌≡◌, ◌≢◌, ℕ, ◌<◌, ◌⊎◌, ◌++◌, ◌∷◌, Bool, true, ◌-◌, List, [], filter, map, length, All, slice_index_or, keys_of, Area, is_one_of, is_within, replaced, Sheet, fields_at, sheet_size, State, session_at, replacements_for, Option, Case, effective, cells_cases, rows_cases, comparison_cases, table_cases, current_replacements}
 use Rattle.wi_import.specs.Inner.Reading.{field_cell}
-use Rattle.wi_sessions.specs.Pictures.{sheet_size}
 use Rattle.wi_sessions.specs.Roster.{SameCells}
-use Rattle.wi_scenarios.specs.State.{State}
-use Rattle.wi_scenarios.specs.Views.{session_at, replacements_for}
 
 -- The state, the pending cells of each session in the order of making, and the counts that the calculator tells.
 pub record Book : Type 0 where
@@ -28,14 +19,11 @@ pending_for pending i = slice_index_or pending i []
 abbrev pub is_pending : List (List ℕ) → ℕ → ℕ → Bool
 is_pending pending i a = is_one_of (pending_for pending i) a
 
--- the i-th session's replacement for a cell was set, removed or switched
-abbrev pub IsSwitched : State → State → ℕ → ℕ → Type 0
-IsSwitched old new i a =
-    replaced (replacements_for old (session_at old i)) a ≢ replaced (replacements_for new (session_at new i)) a
-
 -- a cell that the command edits, or whose replacement for the i-th session it sets, removes or switches
 abbrev pub IsTouched : List ℕ → State → State → ℕ → ℕ → Type 0
-IsTouched edited old new i a = (is_one_of edited a ≡ true) ⊎ IsSwitched old new i a
+IsTouched edited old new i a =
+    (is_one_of edited a ≡ true)
+    ⊎ (replaced (replacements_for old (session_at old i)) a ≢ replaced (replacements_for new (session_at new i)) a)
 
 -- a cell that is marked for some cells that were touched, one at least: a calculator may mark cells for none
 pub record IsMarked (marked : Sheet → List ℕ → ℕ → Bool) (sheet : Sheet) (Touched : ℕ → Type 0) (a : ℕ) : Type 0 where
@@ -58,10 +46,6 @@ counts b = (b.evaluated, b.restarted)
 abbrev pub SameCounts : Book → Book → Type 0
 SameCounts old new = (new.evaluated ≡ old.evaluated) × (new.restarted ≡ old.restarted)
 
--- the pending cells of a session are gone, those of the others are as they were
-abbrev pub Emptied : ℕ → List (List ℕ) → List (List ℕ) → Type 0
-Emptied i before after = after ≡ slice_set before i []
-
 -- each session but the i-th has the pending cells that it had
 abbrev pub SameForOthers : ℕ → List (List ℕ) → List (List ℕ) → Type 0
 SameForOthers i before after = (j a : ℕ) → j ≢ i → is_pending after j a ≡ is_pending before j a
@@ -81,3 +65,19 @@ imported_cells at text = map field_cell (fields_at at text)
 abbrev pub HasNewSession : Sheet → List (List ℕ) → List (List ℕ) → Type 0
 HasNewSession sheet before after =
     (cells : List ℕ) × (after ≡ before ++ cells ∷ []) × SameCells cells (occupied_cells sheet)
+
+-- ---- the cases that are asked for
+
+-- `show` and `export`
+abbrev pub asked_by_show : State → Area → List Case
+asked_by_show s area = rows_cases s.stored.sheet (current_replacements s) area
+
+-- `changes`: the cells that are pending for the current session
+abbrev pub asked_by_changes : State → List (List ℕ) → List Case
+asked_by_changes s pending = cells_cases s.stored.sheet (current_replacements s) (pending_for pending s.current)
+
+abbrev pub asked_by_compare : State → Option (List ℕ) → Option (List ℕ) → Area → List Case
+asked_by_compare s first second area = comparison_cases s.stored.sheet (effective s.scenarios first) (effective s.scenarios second) area
+
+abbrev pub asked_by_table : State → ℕ → ℕ → Area → Option (ℕ × Area) → List Case
+asked_by_table s f r xs second = table_cases s.stored.sheet (current_replacements s) f r xs second

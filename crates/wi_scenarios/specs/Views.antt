@@ -1,4 +1,4 @@
--- What each session is shown.
+-- What each session is shown, and what has changed since it was last shown it.
 use Rattle.std.specs.Prelude.{ℕ, List, []}
 use Rattle.std.specs.List.{slice_index_or, slice_set}
 use Rattle.wi_values.specs.declared.value.Value.{Value}
@@ -7,6 +7,7 @@ use Rattle.wi_sheet.specs.Shown as cell
 use Rattle.wi_scenario_list.specs.Scenarios.{chain, layered}
 use Rattle.wi_scenario_list.specs.Inner.Chains.{effective}
 use Rattle.wi_sessions.specs.Sessions.{Session, new_session}
+use Rattle.wi_sessions.specs.Pictures.{changes_since}
 use Rattle.wi_scenarios.specs.State.{State}
 
 -- the i-th session
@@ -29,3 +30,7 @@ replacements_for s x = effective s.scenarios x.scenario
 -- the value that a session is shown at a cell
 abbrev pub shown_to : State → Session → ℕ → Value
 shown_to s x a = cell.shown s.stored.sheet (replacements_for s x) a
+
+-- what the current session would be told
+abbrev pub change_list : State → List (ℕ × Value)
+change_list s = changes_since (current_session s).picture (cell.shown s.stored.sheet (current_replacements s))

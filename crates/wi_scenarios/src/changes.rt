@@ -4,12 +4,11 @@ ghost use Rattle.std.specs.Prelude.{◌≡◌, ◌<◌, ◌++◌, [], true, leng
 ghost use Rattle.wi_sessions.specs.Roster.{pending_of, vacant_of};
 ghost use Rattle.wi_reports.specs.Changes.{change_records};
 ghost use Rattle.wi_reports.specs.Looks.{Costs};
-ghost use Rattle.wi_scenarios.specs.Changes.{change_list};
-ghost use Rattle.wi_scenarios.specs.Pending.{pending_for};
-ghost use Rattle.wi_scenarios.specs.Asked.{asked_by_changes};
+ghost use Rattle.wi_scenarios.specs.Views.{change_list};
+ghost use Rattle.wi_scenarios.specs.Pending.{pending_for, asked_by_changes};
 ghost use Rattle.wi_scenarios.specs.Inner.Calls.{IsChanges};
 ghost use Rattle.wi_scenarios.specs.Inner.Sound.{book_by, state_of, pending_in, IsSound};
-ghost use Rattle.wi_scenarios.specs.Inner.Told.{IsTold};
+ghost use Rattle.wi_scenarios.specs.Inner.Editing.{IsTold};
 
 use crate::desk::Desk;
 use crate::refusal::Refusal;

@@ -9,7 +9,7 @@ ghost use Rattle.wi_reports.specs.Compare.{cells_compared};
 ghost use Rattle.wi_reports.specs.Looks.{Costs, comparison_cases};
 ghost use Rattle.wi_scenarios.specs.Commands.Command as command;
 ghost use Rattle.wi_scenarios.specs.Commands.Operands.{corners};
-ghost use Rattle.wi_scenarios.specs.Asked.{asked_by_compare};
+ghost use Rattle.wi_scenarios.specs.Pending.{asked_by_compare};
 ghost use Rattle.wi_scenarios.specs.Inner.Calls.{Looks};
 ghost use Rattle.wi_scenarios.specs.Inner.Sound.{book_by, state_of, IsSound};
 

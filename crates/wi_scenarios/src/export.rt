@@ -3,7 +3,7 @@
 ghost use Rattle.std.specs.Prelude.{◌≡◌};
 ghost use Rattle.wi_scenarios.specs.Commands.Command as command;
 ghost use Rattle.wi_scenarios.specs.Commands.Operands.{corners};
-ghost use Rattle.wi_scenarios.specs.Asked.{asked_by_show};
+ghost use Rattle.wi_scenarios.specs.Pending.{asked_by_show};
 ghost use Rattle.wi_scenarios.specs.Inner.Calls.{Looks};
 ghost use Rattle.wi_scenarios.specs.Inner.Sound.{book_by, state_of, IsSound};
 

@@ -5,9 +5,9 @@ ghost use Rattle.std.specs.Option.{option_copied};
 ghost use Rattle.wi_values.specs.Address.{rows, cells_of, cells_of_row};
 ghost use Rattle.wi_scenarios.specs.Commands.Command as command;
 ghost use Rattle.wi_scenarios.specs.Commands.Operands.{cell, corners};
-ghost use Rattle.wi_scenarios.specs.Commands.Edits.{copied};
+ghost use Rattle.wi_scenarios.specs.Commands.Edits.{copy_to};
 ghost use Rattle.wi_scenarios.specs.Inner.Calls.{IsEditBy};
-ghost use Rattle.wi_scenarios.specs.Inner.Copies.{rows_between, columns_between, CopiesAs, AreCopies, HasNoCopies};
+ghost use Rattle.wi_scenarios.specs.Inner.Copies.{CopiesAs, AreCopies, HasNoCopies};
 ghost use Rattle.wi_scenarios.specs.Inner.Sound.{book_by, IsSound};
 
 use crate::areas::{is_placed, is_spanned, is_too_large};
@@ -96,8 +96,7 @@ fn copied(
     from: Address,
     to: Address,
 ) -> Result<Option<Content>, ShiftFault>
-    ensures { CopiesAs (copied (rows_between from to)
-        (columns_between from to) (option_copied content.entry)) result }
+    ensures { CopiesAs (copy_to (option_copied content.entry) from to) result }
 {
     match content {
         None => Ok(None),

@@ -4,7 +4,7 @@
 ghost use Rattle.std.specs.Prelude.{◌≡◌};
 ghost use Rattle.wi_scenarios.specs.Commands.Command as command;
 ghost use Rattle.wi_scenarios.specs.Commands.Operands.{cell, corners, second_input};
-ghost use Rattle.wi_scenarios.specs.Asked.{asked_by_table};
+ghost use Rattle.wi_scenarios.specs.Pending.{asked_by_table};
 ghost use Rattle.wi_scenarios.specs.Inner.Calls.{Looks};
 ghost use Rattle.wi_scenarios.specs.Inner.Placed.{IsTablePlaced};
 ghost use Rattle.wi_scenarios.specs.Inner.Sound.{book_by, state_of, IsSound};

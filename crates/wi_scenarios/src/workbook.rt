@@ -9,8 +9,7 @@ ghost use Rattle.wi_scenarios.specs.State.{state_over};
 ghost use Rattle.wi_scenarios.specs.Commands.Command as command;
 ghost use Rattle.wi_scenarios.specs.Commands.Operands.{cell, corners, second_input};
 ghost use Rattle.wi_scenarios.specs.Commands.Step.{IsStep};
-ghost use Rattle.wi_scenarios.specs.Asked.{asked_by_show, asked_by_compare, asked_by_table};
-ghost use Rattle.wi_scenarios.specs.Pending.{SameForOthers, occupied_in, occupied_cells};
+ghost use Rattle.wi_scenarios.specs.Pending.{SameForOthers, occupied_in, occupied_cells, asked_by_show, asked_by_compare, asked_by_table};
 ghost use Rattle.wi_scenarios.specs.Inner.Calls.{IsEditBy, IsImport, IsDrop, IsAs, ServesInto, Looks, IsChanges};
 
 use crate::areas::is_table_placed;

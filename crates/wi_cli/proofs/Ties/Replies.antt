@@ -1,8 +1,31 @@
 -- Codes and replies, by the step of a command, and what a run has written.
-use Rattle.wi_cli.proofs.Vocabulary.{◌≡◌, List, [], ◌∷◌, inl, inr, codes, refl, sym, ap, ap₂, ◌∙◌, Contains, State, Bytes, Command, Cause, CutShort, Outside, BadField, OutOfSheet, NumberRange, TooDeep, Syntax, LeavesSheet, Stale, Full, EditLimit, order, IsFirst, late, causes, IsFirstOf, false, true, Ok, Err, subst, arith, both_ways, Refusal, may_grow, MayGrow, Holds, Answer, Tells, IsStep, list_any, KeepsMemory, MayLackMemory, lies_outside, Csv, has_session, form, first_holds, one_first, ◌++◌, ℕ, Option, Some, None, subst₂, refused as refused_line, stale_cell, cell_named, Replies, accepted, unserved, RefusedAs, refusal_for, false≢true, left_by, reply, Writes, MayHappen, AreEvents, ◌%◌, ◌+◌, ◌/◌, map, false_from_ne_true, byte, code_of}
+use Rattle.wi_cli.proofs.Vocabulary.{◌≡◌, List, [], ◌∷◌, inl, inr, codes, refl, sym, ap, ap₂, ◌∙◌, Contains, State, Bytes, Command, Cause, CutShort, Outside, BadField, OutOfSheet, NumberRange, TooDeep, Syntax, LeavesSheet, Stale, Full, EditLimit, order, IsFirst, late, causes, IsFirstOf, false, true, Ok, Err, subst, arith, both_ways, Refusal, may_grow, MayGrow, Holds, Answer, Tells, IsStep, list_any, KeepsMemory, MayLackMemory, lies_outside, Csv, has_session, form, first_holds, one_first, ◌++◌, ℕ, Option, Some, None, subst₂, refused as refused_line, stale_cell, cell_named, Replies, accepted, unserved, RefusedAs, false≢true, left_by, reply, Writes, MayHappen, AreEvents, ◌%◌, ◌+◌, ◌/◌, map, false_from_ne_true, byte, code_of}
 use Rattle.wi_scenarios.specs.Commands.Command.{Drop, As}
 use Rattle.wi_cli.specs.Reply.{refused}
+use Rattle.wi_scenarios.specs.Commands.Causes.{BadLine, BadCommand, TooLarge, NoScenario, InUse, TooMany, TooLong, Loop}
 use Rattle.wi_scenarios.specs.declared.refusal.Refusal.TheVariants as refusal
+
+-- the refusal for a cause; that for a stale cell names it
+abbrev refusal_for : Cause → Refusal
+refusal_for BadLine = refusal.BadLine
+refusal_for BadCommand = refusal.BadCommand
+refusal_for CutShort = refusal.CutShort
+refusal_for Outside = refusal.OutOfSheet
+refusal_for TooLarge = refusal.TooLarge
+refusal_for NoScenario = refusal.NoScenario
+refusal_for InUse = refusal.InUse
+refusal_for TooMany = refusal.TooMany
+refusal_for BadField = refusal.BadField
+refusal_for TooLong = refusal.TooLong
+refusal_for OutOfSheet = refusal.OutOfSheet
+refusal_for NumberRange = refusal.NumberRange
+refusal_for TooDeep = refusal.TooDeep
+refusal_for Syntax = refusal.Syntax
+refusal_for LeavesSheet = refusal.LeavesSheet
+refusal_for Stale = refusal.Memory
+refusal_for Loop = refusal.Loop
+refusal_for Full = refusal.Full
+refusal_for EditLimit = refusal.EditLimit
 
 -- that of its refusal, in two digits
 abbrev pub code : Cause → Bytes
@@ -105,7 +128,7 @@ module _ (s : State) (c : Command) where
       by : (o : Option ℕ) → stale_cell s c ≡ o → (stale_cell s c ≡ None → ⊥) → (e : Refusal) × Tells s c Stale e
       by None e h = absurd (h e)
       by (Some at) e h = (refusal.Stale at, (at, e, refl))
-  has_refusal x h = (refusal_for x, refl)
+  has_refusal x h = (_, refl)
 
   pub done : (t : State) (records : Bytes) → IsStep s c (Ok (t, records)) → Replies s c (records ++ codes "ok\n") t
   done t records is = accepted t records is.0 is.1

@@ -1,22 +1,10 @@
 -- For which causes a command is refused, and which of them is answered.
-use Rattle.std.specs.Prelude.{◌≡◌, ◌≢◌, ◌*◌, ◌<◌, ◌≤◌, ◌⊎◌, ℕ, Bool, false, not, IsTrue, ◌||◌, ◌&&◌, ◌==◌, List, [], ◌∷◌, length, Option, Some, None, codes}
-use Rattle.std.specs.List.{Any, Contains, list_any}
-use Rattle.std.specs.Str.{IsUtf8}
-use Rattle.wi_fraction.specs.Text.{Bytes}
-use Rattle.wi_values.specs.Address.{size_of, cells_of}
-use Rattle.wi_values.specs.Imported.{IsImported}
+use Rattle.wi_scenarios.specs.Words.{◌≡◌, ◌≢◌, ◌*◌, ◌<◌, ◌≤◌, ◌⊎◌, ℕ, Bool, false, not, IsTrue, ◌||◌, ◌&&◌, ◌==◌, List, [], ◌∷◌, length, Option, Some, None, codes, Any, Contains, list_any, IsUtf8, Bytes, size_of, cells_of, IsImported, HasSymbols, IsTooLong, IsInside, first_stale, chain, has_scenario, is_full, has_session, max_sessions, State, max_area, current_session}
 use Rattle.wi_parser.specs.declared.fault.ParseFault.TheVariants as parse
-use Rattle.wi_parser.specs.Contents.{HasSymbols, IsTooLong}
 use Rattle.wi_parser.specs.Nesting.{is_too_deep}
 use Rattle.wi_parser.specs.Spelling.{IsSpelling}
 use Rattle.wi_parser.specs.Symbol.{bad_token}
 use Rattle.wi_parser.specs.Tree.{Tree}
-use Rattle.wi_import.specs.Fields.{IsInside}
-use Rattle.wi_edit_log.specs.EditLog.{first_stale}
-use Rattle.wi_scenario_list.specs.Scenarios.{chain, has_scenario, is_full}
-use Rattle.wi_sessions.specs.Sessions.{has_session, max_sessions}
-use Rattle.wi_scenarios.specs.State.{State, max_area}
-use Rattle.wi_scenarios.specs.Views.{current_session}
 use Rattle.wi_scenarios.specs.Commands.DataLines.{max_line, without_lf}
 use Rattle.wi_scenarios.specs.Commands.Operands.{Cell, CornerCells, is_outside, address, area, Operand, ADDR, RECT, NAME, SIDE, ANY}
 use Rattle.wi_scenarios.specs.Commands.Command.{Command, Set, Clear, Fill, Csv, Scenario, Drop, Base, As, Table, Unknown, Unreadable, form}

@@ -1,6 +1,5 @@
 -- The commands of the script, and how each is written.
-use Rattle.std.specs.Prelude.{ℕ, Bool, true, false, List, [], ◌∷◌, Option, Some, None, codes}
-use Rattle.wi_fraction.specs.Text.{Bytes}
+use Rattle.wi_scenarios.specs.Words.{ℕ, Bool, true, false, List, [], ◌∷◌, Option, Some, None, codes, Bytes}
 use Rattle.wi_scenarios.specs.Commands.Operands.{Cell, CornerCells, Operand, WORD, ADDR, RECT, NAME, SESSION, SIDE, ANY, LINES, CONTENT}
 
 -- What a line asks for, whatever its operands are worth. `Csv` has the number of data lines asked for and those that

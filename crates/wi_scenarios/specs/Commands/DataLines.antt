@@ -1,7 +1,5 @@
 -- What each line is held to, the data lines of an import too.
-use Rattle.std.specs.Prelude.{ℕ, ◌==◌, [], ◌∷◌, if◌then◌else◌}
-use Rattle.std.specs.Str.{byte}
-use Rattle.wi_fraction.specs.Text.{Bytes}
+use Rattle.wi_scenarios.specs.Words.{ℕ, ◌==◌, [], ◌∷◌, if◌then◌else◌, byte, Bytes}
 
 abbrev pub without_lf : Bytes → Bytes
 without_lf [] = []

@@ -1,21 +1,10 @@
 -- What a command does that is accepted.
-use Rattle.std.specs.Prelude.{◌≡◌, length, List, [], ◌∷◌, Some, option_map}
-use Rattle.wi_fraction.specs.Text.{Bytes}
-use Rattle.wi_values.specs.declared.value.Value.{Value}
-use Rattle.wi_values.specs.Imported.{IsImported}
-use Rattle.wi_scenario_list.specs.Scenarios.{scenario_for, with_scenario, without_scenario, with_own, without_own, chain, layered}
+use Rattle.wi_scenarios.specs.Words.{◌≡◌, length, List, [], ◌∷◌, Some, option_map, Bytes, Value, IsImported, scenario_for, with_scenario, without_scenario, with_own, without_own, chain, layered, shown, with_session, index_of, with_changes, change_records, State, current_session, with_current, current_replacements, change_list}
 use Rattle.wi_scenario_list.specs.Scenarios as list
-use Rattle.wi_sheet.specs.Shown.{shown}
-use Rattle.wi_sessions.specs.Sessions.{with_session, index_of}
-use Rattle.wi_sessions.specs.Pictures.{with_changes}
 use Rattle.wi_reports.specs.Rows.{rows_shown, export_of}
-use Rattle.wi_reports.specs.Changes.{change_records}
 use Rattle.wi_reports.specs.Compare.{cells_compared}
 use Rattle.wi_reports.specs.Table.{table_of}
 use Rattle.wi_reports.specs.Contents.{content_record}
-use Rattle.wi_scenarios.specs.State.{State}
-use Rattle.wi_scenarios.specs.Views.{current_session, with_current, current_replacements}
-use Rattle.wi_scenarios.specs.Changes.{change_list}
 use Rattle.wi_scenarios.specs.Commands.Operands.{address, area}
 use Rattle.wi_scenarios.specs.Commands.Command.{Command, Scenario, Drop, Base, Use, As, Show, Export, Changes, Compare, Table, Formula}
 use Rattle.wi_scenarios.specs.Commands.Edits.{after_edit, Put, Puts}

@@ -1,7 +1,5 @@
 -- The operands of commands, whether the sheet has the cells or not.
-use Rattle.std.specs.Prelude.{ℕ, Bool, ◌||◌, nat_le, Option, option_map}
-use Rattle.wi_fraction.specs.Text.{Bytes}
-use Rattle.wi_values.specs.Address.{Area, rows, columns, place, row_of, column_of, rect_of}
+use Rattle.wi_scenarios.specs.Words.{ℕ, Bool, ◌||◌, nat_le, Option, option_map, Bytes, Area, rows, columns, place, row_of, column_of, rect_of}
 
 -- a cell by its row and its column, counted from 0, of any size
 pub record Cell : Type 0 where

@@ -1,10 +1,6 @@
 -- A step as the calls of a workbook tell it, which refuse by `Refusal`.
-use Rattle.std.specs.Prelude.{◌≡◌, ◌≤◌, ◌⊎◌, ℕ, Bool, List, [], ◌∷◌, length, map, Some, Ok, Err}
-use Rattle.std.specs.List.{All, concat}
-use Rattle.wi_fraction.specs.Text.{Bytes}
-use Rattle.wi_scenarios.specs.declared.refusal.Refusal.{Refusal}
+use Rattle.wi_scenarios.specs.Words.{◌≡◌, ◌≤◌, ◌⊎◌, ℕ, Bool, List, [], ◌∷◌, length, map, Some, Ok, Err, All, concat, Bytes, Refusal, State}
 use Rattle.wi_scenarios.specs.declared.refusal.Refusal.TheVariants as refusal
-use Rattle.wi_scenarios.specs.State.{State}
 use Rattle.wi_scenarios.specs.Answer.{Answer}
 use Rattle.wi_scenarios.specs.Commands.DataLines.{max_line, without_lf}
 use Rattle.wi_scenarios.specs.Commands.Operands.{cell}

@@ -1,19 +1,11 @@
 -- What a call of a workbook leaves, from one book to the next: of each command what its method and its code promise.
-use Rattle.std.specs.Prelude.{◌≡◌, ◌≢◌, ℕ, Bool, true, false, List, [], ◌++◌, Result, Err, OnOk, OnErr, is_ok}
-use Rattle.std.specs.Map.{keys_of}
-use Rattle.wi_parser.specs.Sheet.{Sheet}
-use Rattle.wi_sheet.specs.Demand.{Case}
-use Rattle.wi_sessions.specs.Sessions.{has_session}
-use Rattle.wi_reports.specs.Looks.{Costs}
-use Rattle.wi_scenarios.specs.declared.refusal.Refusal.{Refusal}
+use Rattle.wi_scenarios.specs.Words.{◌≡◌, ◌≢◌, ℕ, Bool, true, false, List, [], ◌++◌, Result, Err, OnOk, OnErr, is_ok, keys_of, Sheet, Case, has_session, Costs, Refusal, State, slice_set}
 use Rattle.wi_scenarios.specs.declared.refusal.Refusal.TheVariants.{Memory}
-use Rattle.wi_scenarios.specs.State.{State}
 use Rattle.wi_scenarios.specs.Answer.{Answer, Serves, ServesData}
 use Rattle.wi_scenarios.specs.Commands.Command.{Command, Drop, As, Changes}
 use Rattle.wi_scenarios.specs.Commands.Step.{IsStep, IsImportStep}
-use Rattle.wi_scenarios.specs.Asked.{asked_by_changes}
-use Rattle.wi_scenarios.specs.Pending.{Book, AddsOnly, SameCounts, counts, Emptied, HasNewSession, pending_for, imported_cells}
-use Rattle.wi_scenarios.specs.Inner.EditAnswer.{Edit, edit_answer}
+use Rattle.wi_scenarios.specs.Pending.{Book, asked_by_changes, AddsOnly, SameCounts, counts, HasNewSession, pending_for, imported_cells}
+use Rattle.wi_scenarios.specs.Inner.Editing.{Edit, edit_answer}
 
 -- An edit of these cells. A command about scenarios edits none. What becomes pending is marked for cells that it
 -- touches; where it is refused, what is pending is as it was. It counts nothing.
@@ -64,7 +56,7 @@ pub record Looks (c : Command) (cases : List Case) (result : Result (Unit {0}) R
 -- `changes`: where no cell is pending for the current session, it takes no memory, counts nothing and tells nothing
 pub record IsChanges (result : Result (Unit {0}) Refusal) (old new : Book) (before after : List ℕ) : Type 0 where
   pub step : ServesInto (IsStep old.state Changes) result old.state new.state before after
-  pub emptied : OnOk result (Emptied old.state.current old.pending new.pending)
+  pub emptied : OnOk result (new.pending ≡ slice_set old.pending old.state.current [])
   pub refused : OnErr result (new.pending ≡ old.pending)
   pub quiet : pending_for old.pending old.state.current ≡ [] → SameCounts old new × (after ≡ before)
   pub quiet_ok : pending_for old.pending old.state.current ≡ [] → is_ok result ≡ true

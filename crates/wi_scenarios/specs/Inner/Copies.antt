@@ -1,22 +1,7 @@
 -- Copies of a content that are made one after another.
-use Rattle.std.specs.Prelude.{◌≡◌, ℕ, ℤ, pos, ◌-ℤ◌, Bool, true, false, not, List, map, Option, Some, None, is_some, Result, Ok, Err}
-use Rattle.std.specs.List.{list_any}
-use Rattle.wi_values.specs.Address.{row_of, column_of}
-use Rattle.wi_parser.specs.declared.shift.ShiftFault.{ShiftFault}
+use Rattle.wi_scenarios.specs.Words.{◌≡◌, ℕ, Bool, true, false, not, List, map, Option, Some, None, is_some, Result, Ok, Err, list_any, ShiftFault, Content}
 use Rattle.wi_parser.specs.declared.shift.ShiftFault.TheVariants.{LeavesSheet, Memory}
-use Rattle.wi_parser.specs.declared.content.Content.{Content}
-use Rattle.wi_scenarios.specs.Commands.Edits.{copied}
-
--- how far it is from one cell to another, down and to the right
-abbrev pub rows_between : ℕ → ℕ → ℤ
-rows_between from to = pos (row_of to) -ℤ pos (row_of from)
-
-abbrev pub columns_between : ℕ → ℕ → ℤ
-columns_between from to = pos (column_of to) -ℤ pos (column_of from)
-
--- the copy of a content that stands in a cell for another cell
-abbrev pub copy_to : Option Content → ℕ → ℕ → Option (Option Content)
-copy_to content from to = copied (rows_between from to) (columns_between from to) content
+use Rattle.wi_scenarios.specs.Commands.Edits.{copy_to}
 
 abbrev pub has_no_copy : Option Content → ℕ → ℕ → Bool
 has_no_copy content from to = not (is_some (copy_to content from to))

@@ -1,17 +1,34 @@
--- What an edit of the sheet finds on its way, step by step.
-use Rattle.std.specs.Prelude.{◌≡◌, ℕ, ◌<◌, ◌⊎◌, Bool, true, not, ◌&&◌, if◌then◌else◌, List, [], ◌∷◌, ◌++◌, length, Option, Some, None, Result, Ok, Err}
-use Rattle.std.specs.Map.{keys_of}
-use Rattle.wi_values.specs.Address.{Area, is_one_of}
-use Rattle.wi_parser.specs.declared.content.Content.{Content}
-use Rattle.wi_parser.specs.Sheet.{Sheet}
-use Rattle.wi_edit_log.specs.EditLog.{Entry, first_stale}
-use Rattle.wi_store.specs.declared.fault.StoreFault.{StoreFault}
-use Rattle.wi_store.specs.Store.{Stored}
+-- What an edit is answered where no cause of its own command holds, what it finds on its way, and what a change list
+-- that is told changes.
+use Rattle.wi_scenarios.specs.Words.{ℕ, Bool, if◌then◌else◌, List, [], ◌∷◌, ◌++◌, Option, Some, None, Result, Ok, Err, ◌≡◌, ◌<◌, ◌⊎◌, true, not, ◌&&◌, length, Area, is_one_of, Content, first_stale, Entry, StoreFault, Stored, applied, keys_of, Sheet, slice_set, Value, told, Refusal, State, current_session}
 use Rattle.wi_sessions.specs.Roster.{Roster, session_at, pending_of, vacant_of}
-use Rattle.wi_scenarios.specs.declared.refusal.Refusal.{Refusal}
-use Rattle.wi_scenarios.specs.declared.refusal.Refusal.TheVariants.{Memory}
+use Rattle.wi_scenarios.specs.declared.refusal.Refusal.TheVariants.{Stale, Memory}
+use Rattle.wi_scenarios.specs.Answer.{Answer, edit_refusal}
+use Rattle.wi_scenarios.specs.Commands.Edits.{with_stored}
 use Rattle.wi_scenarios.specs.declared.desk.Desk.{Desk}
-use Rattle.wi_scenarios.specs.Inner.EditAnswer.{limit_of}
+
+-- an edit: the rectangles that it names, and what each of some cells gets: a content, or none
+pub record Edit : Type 0 where
+  pub named : List Area
+  pub contents : List (ℕ × Option Content)
+
+-- the first limit that an edit would pass, if it passes one
+abbrev pub limit_of : Result Stored StoreFault → Option Refusal
+limit_of (Ok stored) = None
+limit_of (Err e) = Some (edit_refusal e)
+
+-- the first cell named that is stale for the current session; an edit that is forced has none
+abbrev pub stale_in : State → Bool → List Area → Option ℕ
+stale_in s force named = if force then None else first_stale s.log s.current (current_session s).seen named
+
+-- a stale cell counts before the sheet's limits
+abbrev pub answer_by : State → Option ℕ → List Area → Result Stored StoreFault → Answer
+answer_by s (Some at) named r = Err (Stale at)
+answer_by s None named (Ok stored) = Ok (with_stored s named stored, [])
+answer_by s None named (Err e) = Err (edit_refusal e)
+
+abbrev pub edit_answer : State → Bool → Edit → Answer
+edit_answer s force e = answer_by s (stale_in s force e.named) e.named (applied s.stored e.contents)
 
 -- the first cell named that is stale for the current session; an edit that is forced has none
 abbrev pub stale_on : Desk → Bool → List Area → Option ℕ
@@ -44,3 +61,14 @@ MayFail e answer = limit_of answer ≡ Some e
 abbrev pub Commits : Result Stored StoreFault → Entry → Result (Unit {0}) Refusal → Stored → Stored → List Entry → List Entry → Type 0
 Commits answer entry (Ok _) old new before after = (answer ≡ Ok new) × (after ≡ before ++ entry ∷ [])
 Commits answer entry (Err e) old new before after = MayFail e answer × (new ≡ old) × (after ≡ before)
+
+-- The current session was told these changes when the log had its length, and no cell is pending for it; all else is as
+-- it was.
+pub record IsTold (old : Desk) (changes : List (ℕ × Value)) (new : Desk) : Type 0 where
+  pub sessions : new.sessions.sessions
+      ≡ slice_set old.sessions.sessions old.current (told (session_at old.sessions old.current) changes (length old.log))
+  pub pending : new.sessions.pending ≡ slice_set old.sessions.pending old.current []
+  pub vacant : new.sessions.vacant ≡ slice_set old.sessions.vacant old.current []
+  pub scenarios : new.scenarios ≡ old.scenarios
+  pub current : new.current ≡ old.current
+  pub log : new.log ≡ old.log

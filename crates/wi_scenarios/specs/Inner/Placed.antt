@@ -1,6 +1,5 @@
 -- Addresses and rectangles as operands: the sheet has them.
-use Rattle.std.specs.Prelude.{◌≡◌, ℕ, false, ◌||◌, Option, IfSome}
-use Rattle.wi_values.specs.Address.{Area}
+use Rattle.wi_scenarios.specs.Words.{◌≡◌, ℕ, false, ◌||◌, Option, IfSome, Area}
 use Rattle.wi_scenarios.specs.Commands.Operands.{is_outside, address, area, cell, corners}
 
 pub record IsPlaced (a : ℕ) : Type 0 where

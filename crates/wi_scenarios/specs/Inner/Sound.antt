@@ -1,18 +1,11 @@
 -- What the fields of a workbook stand for, and what holds of them between commands.
-use Rattle.std.specs.Prelude.{◌≡◌, ℕ, ◌<◌, ◌≤◌, Bool, true, false, List, [], ◌∷◌, length, Result, OnOk, OnErr}
+use Rattle.wi_scenarios.specs.Words.{◌≡◌, ℕ, ◌<◌, ◌≤◌, Bool, true, false, List, [], ◌∷◌, length, Result, OnOk, OnErr, Sheet, Stored, value_in, sheet_size, max_sessions, State, session_at, shown_to, Refusal}
 use Rattle.std.specs.declared.alloc.AllocError.{AllocError}
-use Rattle.wi_parser.specs.Sheet.{Sheet}
-use Rattle.wi_store.specs.Store.{Stored}
-use Rattle.wi_sessions.specs.Pictures.{value_in, sheet_size}
 use Rattle.wi_sessions.specs.Roster.{vacant_of}
-use Rattle.wi_sessions.specs.Sessions.{max_sessions}
-use Rattle.wi_scenarios.specs.State.{State}
-use Rattle.wi_scenarios.specs.Views.{session_at, shown_to}
 use Rattle.wi_scenarios.specs.Pending.{Book, AddsOnly, is_pending}
 use Rattle.wi_scenarios.specs.Commands.Command.{Command}
 use Rattle.wi_scenarios.specs.Inner.Calls.{IsEditBy}
 use Rattle.wi_scenarios.specs.declared.desk.Desk.{Desk}
-use Rattle.wi_scenarios.specs.declared.refusal.Refusal.{Refusal}
 
 -- the state of a sheet and of what is kept beside it
 abbrev pub state_of : Stored → Desk → State

@@ -1,4 +1,4 @@
-use Rattle.wi_scenarios.proofs.Words.{◌≡◌, ◌∙◌, length, refl, arith, common_steps, IfOk-from_err, IfOk-weaker, effective, pending_of, session_at, List, Replacement, ap, asked_same, nothing_asked, cells_cases, ◌<◌, false≢true}
+use Rattle.wi_scenarios.proofs.Words.{◌≡◌, ◌∙◌, length, refl, arith, common_steps, IfOk-weaker, effective, pending_of, session_at, List, Replacement, ap, asked_same, nothing_asked, cells_cases, ◌<◌, false≢true}
 use Rattle.wi_scenarios.proofs.ChangesLemmas.{changes_found, nothing_found}
 use Rattle.wi_scenarios.proofs.changes.find.Goals as goal
 
@@ -19,26 +19,8 @@ returns-then-is_empty-clause-list g c =
     nothing_found (g.C.Calculator.stored c.args.calculator.now) c.args.desk.now (pending_of c.args.desk.now.sessions c.args.desk.now.current) c.in_ok-cells.cells.items c.new.result.items
     c.requires c.in_ok-cells.ensures.order refl c.in_ok-cells.ensures.list none c.new.ensures.items
 
-pub returns-then-is_empty-clause-quiet : goal.returns-then-is_empty-clause-quiet
-returns-then-is_empty-clause-quiet g c = λ none. (refl, refl)
-
-pub returns-in_err-cells-clause-quiet : goal.returns-in_err-cells-clause-quiet
-returns-in_err-cells-clause-quiet g c = λ none. (refl, refl)
-
-pub returns-in_err-put-clause-quiet : goal.returns-in_err-put-clause-quiet
-returns-in_err-put-clause-quiet g c = λ none. (refl, refl)
-
 pub returns-then-is_empty-clause-none : goal.returns-then-is_empty-clause-none
 returns-then-is_empty-clause-none g c = λ none. search c.new.ensures.items
-
-pub returns-in_err-cells-clause-list : goal.returns-in_err-cells-clause-list
-returns-in_err-cells-clause-list g c = IfOk-from_err c.from_residual.result _ c.from_residual.ensures.0
-
-pub returns-in_err-put-clause-list : goal.returns-in_err-put-clause-list
-returns-in_err-put-clause-list g c = IfOk-from_err c.from_residual-in_err-put.result _ c.from_residual-in_err-put.ensures.0
-
-pub returns-clause-same : goal.returns-clause-same
-returns-clause-same g c = c.find_changes.ensures.same
 
 pub returns-then-is_empty-clause-cost : goal.returns-then-is_empty-clause-cost
 returns-then-is_empty-clause-cost g c = nothing_asked _ _ _

@@ -23,7 +23,3 @@ returns-clause-edit g c =
     c.edit_area.result (state_of (g.C.Calculator.stored c.edit_area.new.calculator) c.edit_area.new.desk))
     c.edit_area.ensures.edit in
     search (edited)
-
-pub returns-clause-sound : goal.returns-clause-sound
-returns-clause-sound g c =
-    let sound = c.edit_area.ensures.sound in search (sound)

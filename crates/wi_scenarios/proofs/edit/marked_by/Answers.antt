@@ -1,12 +1,12 @@
-use Rattle.wi_scenarios.proofs.Words.{◌∙◌, length, is_pending_for_all}
-use Rattle.wi_scenarios.proofs.EditLemmas.{none_marked, some_marked, if_ok_both, is_none, is_one}
+use Rattle.wi_scenarios.proofs.Words.{◌∙◌, length, is_pending_for_all, ◌≡◌, ◌<◌, arith, common_steps}
+use Rattle.wi_scenarios.proofs.EditLemmas.{none_marked, some_marked, if_ok_both}
 use Rattle.wi_scenarios.proofs.edit.marked_by.Goals as goal
 
 pub returns-then-is_empty : goal.returns-then-is_empty
 returns-then-is_empty g c =
     let contents = c.args.contents.now in
     none_marked g.C.Calculator.marked (g.C.Calculator.stored c.args.calculator.now).sheet (is_pending_for_all c.args.sessions.now) contents c.new.result.items
-    (is_none c.is_empty.result (length contents) c.is_empty.ensures c.if-is_empty.true) c.new.ensures.items
+    (let none : length contents ≡ 0 = grind (arith, common_steps) in none) c.new.ensures.items
 
 pub mark_beyond-requires : goal.mark_beyond-requires
 mark_beyond-requires g c = c.requires
@@ -14,7 +14,7 @@ mark_beyond-requires g c = c.requires
 pub returns : goal.returns
 returns g c =
     let contents = c.args.contents.now in
-    let some = is_one c.is_empty.result (length contents) c.is_empty.ensures c.if-is_empty.false in
+    let some : 0 < length contents = grind (arith, common_steps) in
     if_ok_both _ _ _ c.mark_beyond.result
     (λ found m o. some_marked g.C.Calculator.marked (g.C.Calculator.stored c.args.calculator.now).sheet (is_pending_for_all c.args.sessions.now) contents c.as_slice.result.now found.items some (c.as_slice.ensures ∙ c.in_ok-cells.ensures) m o)
     c.mark_beyond.ensures.marked c.mark_beyond.ensures.others

@@ -1,4 +1,4 @@
-use Rattle.wi_scenarios.proofs.Words.{◌+◌, ◌-◌, ℕ, List, sym, subst, arith, option_copied, cells_of, AreCopies, HasNoCopies, rows_from, rows_are, one_row}
+use Rattle.wi_scenarios.proofs.Words.{◌+◌, ◌-◌, ℕ, List, sym, subst, arith, option_copied, AreCopies, HasNoCopies, rows_from, rows_are, one_row}
 use Rattle.wi_scenarios.proofs.CallLemmas.{at_error}
 use Rattle.wi_scenarios.proofs.FillSteps.{no_copy_in_rows}
 use Rattle.wi_scenarios.proofs.fill.copies.Goals as goal
@@ -9,10 +9,9 @@ returns-in_err-push_copies c =
     let first = c.row-first.result in
     let end = c.row-row-end.result + 1 in
     let fault = c.in_err-push_copies.field-0.0 in
-    at_error _ _ _ c.from_residual.result c.from_residual.ensures.1
-    (λ e same. subst (HasNoCopies content c.args.from (cells_of c.args.area)) (sym same)
+    at_error _ _ fault c.from_residual.result c.from_residual.ensures.1
     (subst (λ cells. HasNoCopies content c.args.from cells fault) (rows_are c.args.area _ first _ c.row-row-end.result (end - first) c.first.ensures c.row-first.ensures.value c.last.ensures c.row-row-end.ensures.value (omega arith))
-    (no_copy_in_rows content c.args.from c.args.area first (end - first) c.loop-row.row fault (omega arith) (omega arith) c.in_err-push_copies.ensures)))
+    (no_copy_in_rows content c.args.from c.args.area first (end - first) c.loop-row.row fault (omega arith) (omega arith) c.in_err-push_copies.ensures))
 
 pub loop-row-preserved : goal.loop-row-preserved
 loop-row-preserved c =

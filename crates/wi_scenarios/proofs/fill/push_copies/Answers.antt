@@ -1,4 +1,4 @@
-use Rattle.wi_scenarios.proofs.Words.{◌+◌, ◌-◌, ℕ, List, ◌++◌, sym, subst, arith, option_copied, cells_of_row, AreCopies, HasNoCopies, row_is}
+use Rattle.wi_scenarios.proofs.Words.{◌+◌, ◌-◌, ℕ, List, ◌++◌, subst, arith, option_copied, AreCopies, HasNoCopies, row_is}
 use Rattle.wi_scenarios.proofs.CallLemmas.{at_error}
 use Rattle.wi_scenarios.proofs.FillSteps.{one_cell, no_copy_in_row}
 use Rattle.wi_scenarios.proofs.fill.push_copies.Goals as goal
@@ -9,10 +9,9 @@ returns-in_err-copy c =
     let first = c.column-first.result in
     let end = c.column-column-end.result + 1 in
     let fault = c.in_err-copy.field-0.0 in
-    at_error _ _ _ c.from_residual.result c.from_residual.ensures.1
-    (λ e same. subst (HasNoCopies content c.args.from (cells_of_row c.args.row c.args.area)) (sym same)
+    at_error _ _ fault c.from_residual.result c.from_residual.ensures.1
     (subst (λ cells. HasNoCopies content c.args.from cells fault) (row_is c.args.area c.args.row _ first _ c.column-column-end.result (end - first) c.first.ensures c.column-first.ensures.value c.last.ensures c.column-column-end.ensures.value (omega arith))
-    (no_copy_in_row content c.args.from c.args.row first (end - first) c.loop-column.column c.at-to.result fault (omega arith) (omega arith) c.at-to.ensures c.in_err-copy.ensures)))
+    (no_copy_in_row content c.args.from c.args.row first (end - first) c.loop-column.column c.at-to.result fault (omega arith) (omega arith) c.at-to.ensures c.in_err-copy.ensures))
 
 pub loop-column-preserved : goal.loop-column-preserved
 loop-column-preserved c =

@@ -1,4 +1,4 @@
-use Rattle.wi_scenarios.proofs.Words.{◌≡◌, List, ℕ, length, sym, ap, subst, arith, common_steps, nil_from_length, ServesSound, Scenario, cell}
+use Rattle.wi_scenarios.proofs.Words.{◌≡◌, length, ap, arith, common_steps, nil_from_length}
 use Rattle.wi_scenarios.proofs.scenario.put.Goals as goal
 
 pub put_text-requires-clause-some : goal.put_text-requires-clause-some
@@ -6,10 +6,5 @@ put_text-requires-clause-some g c = λ e. let some : length c.args.content.now �
 
 pub returns-then-is_empty : goal.returns-then-is_empty
 returns-then-is_empty g c =
-    let stored = g.C.Calculator.stored c.args.calculator.now in
     let none : length c.args.content.now ≡ 0 = grind (arith, common_steps) in
-    subst (λ (text : List ℕ). ServesSound g.C.Calculator.marked (Scenario c.args.name.now (cell c.args.at) text) c.take_away.result stored c.args.desk.now c.take_away.new.desk)
-    (sym (nil_from_length c.args.content.now none)) c.take_away.ensures
-
-pub returns : goal.returns
-returns g c = c.put_text.ensures
+    rw (nil_from_length c.args.content.now none) c.take_away.ensures

@@ -16,16 +16,14 @@ returns-in_err-put-clause-looks g c =
 pub returns-in_err-push_rows-clause-looks : goal.returns-in_err-push_rows-clause-looks
 returns-in_err-push_rows-clause-looks g c =
     let old = book_by g.C.Calculator.stored g.C.Calculator.evaluated g.C.Calculator.restarted c.args.calculator.now c.args.desk.now in
-    let new = book_by g.C.Calculator.stored g.C.Calculator.evaluated g.C.Calculator.restarted c.push_rows.new.calculator c.args.desk.now in
-    look_lacked _ c.from_residual-in_err-push_rows.result old new c.args.out.now.items c.push_rows.new.out.items (show_of old.state c.args.area c.is_spanned.ensures false (sym c.is_too_large.ensures ∙ c.if-is_too_large.false))
+    look_lacked _ c.from_residual-in_err-push_rows.result old _ _ _ (show_of old.state c.args.area c.is_spanned.ensures false (sym c.is_too_large.ensures ∙ c.if-is_too_large.false))
     c.from_residual-in_err-push_rows.ensures.1 (ap (λ x. state_of x c.args.desk.now) c.in_err-push_rows.ensures.same) refl c.in_err-push_rows.ensures.err
     (asked_same (ap (λ (rs : List Replacement). rows_cases old.state.stored.sheet rs c.args.area) (c.deref.ensures.value ∙ c.in_ok-put.ensures.value)) c.in_err-push_rows.ensures.cost)
 
 pub returns-clause-looks : goal.returns-clause-looks
 returns-clause-looks g c =
     let old = book_by g.C.Calculator.stored g.C.Calculator.evaluated g.C.Calculator.restarted c.args.calculator.now c.args.desk.now in
-    let new = book_by g.C.Calculator.stored g.C.Calculator.evaluated g.C.Calculator.restarted c.push_rows.new.calculator c.args.desk.now in
-    look_done old new c.args.out.now.items c.push_rows.new.out.items _ (show_of old.state c.args.area c.is_spanned.ensures false (sym c.is_too_large.ensures ∙ c.if-is_too_large.false))
+    look_done old _ _ _ _ (show_of old.state c.args.area c.is_spanned.ensures false (sym c.is_too_large.ensures ∙ c.if-is_too_large.false))
     (c.in_ok-push_rows.ensures.ok ∙ ap (λ (rs : List Replacement). c.args.out.now.items ++ rows_shown (shown old.state.stored.sheet rs) c.args.area) (c.deref.ensures.value ∙ c.in_ok-put.ensures.value))
     (ap (λ x. state_of x c.args.desk.now) c.in_ok-push_rows.ensures.same) refl
     (asked_same (ap (λ (rs : List Replacement). rows_cases old.state.stored.sheet rs c.args.area) (c.deref.ensures.value ∙ c.in_ok-put.ensures.value)) c.in_ok-push_rows.ensures.cost)

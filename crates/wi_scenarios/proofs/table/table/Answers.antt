@@ -29,22 +29,20 @@ returns-in_err-put-clause-looks g c =
 pub returns-in_err-push_table-clause-looks : goal.returns-in_err-push_table-clause-looks
 returns-in_err-push_table-clause-looks g c =
     let old = book_by g.C.Calculator.stored g.C.Calculator.evaluated g.C.Calculator.restarted c.args.calculator.now c.args.desk.now in
-    let new = book_by g.C.Calculator.stored g.C.Calculator.evaluated g.C.Calculator.restarted c.push_table.new.calculator c.args.desk.now in
     let t = c.args.table.now in
     let shaped : true ≡ (is_column t.column && has_row t.second) = search rules in
     let within : true ≡ nat_le (entries t.column t.second) max_area = search rules in
-    look_lacked _ c.from_residual-in_err-push_table.result old new c.args.out.now.items c.push_table.new.out.items (table_found old.state t.formula_cell t.input t.column t.second c.requires.placed true true shaped within)
+    look_lacked _ c.from_residual-in_err-push_table.result old _ _ _ (table_found old.state t.formula_cell t.input t.column t.second c.requires.placed true true shaped within)
     c.from_residual-in_err-push_table.ensures.1 (ap (λ x. state_of x c.args.desk.now) c.in_err-push_table.ensures.same) refl c.in_err-push_table.ensures.err
     (asked_same (ap (λ (rs : List Replacement). table_cases old.state.stored.sheet rs t.formula_cell t.input t.column t.second) (c.deref.ensures.value ∙ c.in_ok-put.ensures.value)) c.in_err-push_table.ensures.cost)
 
 pub returns-clause-looks : goal.returns-clause-looks
 returns-clause-looks g c =
     let old = book_by g.C.Calculator.stored g.C.Calculator.evaluated g.C.Calculator.restarted c.args.calculator.now c.args.desk.now in
-    let new = book_by g.C.Calculator.stored g.C.Calculator.evaluated g.C.Calculator.restarted c.push_table.new.calculator c.args.desk.now in
     let t = c.args.table.now in
     let shaped : true ≡ (is_column t.column && has_row t.second) = search rules in
     let within : true ≡ nat_le (entries t.column t.second) max_area = search rules in
-    look_done old new c.args.out.now.items c.push_table.new.out.items _ (table_found old.state t.formula_cell t.input t.column t.second c.requires.placed true true shaped within)
+    look_done old _ _ _ _ (table_found old.state t.formula_cell t.input t.column t.second c.requires.placed true true shaped within)
     (c.in_ok-push_table.ensures.ok ∙ ap (λ (rs : List Replacement). c.args.out.now.items ++ table_of old.state.stored.sheet rs t.formula_cell t.input t.column t.second) (c.deref.ensures.value ∙ c.in_ok-put.ensures.value))
     (ap (λ x. state_of x c.args.desk.now) c.in_ok-push_table.ensures.same) refl
     (asked_same (ap (λ (rs : List Replacement). table_cases old.state.stored.sheet rs t.formula_cell t.input t.column t.second) (c.deref.ensures.value ∙ c.in_ok-put.ensures.value)) c.in_ok-push_table.ensures.cost)

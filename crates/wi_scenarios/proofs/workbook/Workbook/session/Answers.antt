@@ -1,8 +1,4 @@
-use Rattle.wi_scenarios.proofs.Words.{List, ℕ, Book, IsAs, book_by}
-use Rattle.wi_scenarios.proofs.CallLemmas.{seen}
 use Rattle.wi_scenarios.proofs.workbook.Workbook.session.Goals as goal
 
 pub returns : goal.returns
-returns g c =
-    let book = book_by g.C.Calculator.stored g.C.Calculator.evaluated g.C.Calculator.restarted in
-    seen (λ (name : List ℕ) (b : Book). IsAs name c.session.result b (book c.self.inside.calculator c.session.new.desk)) c.as_str.ensures c.self.view_is c.session.ensures.current
+returns g c = rw (← c.self.view_is, ← c.as_str.ensures) c.session.ensures.current
