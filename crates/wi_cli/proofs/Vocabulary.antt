@@ -65,7 +65,7 @@ pub use Rattle.wi_scenarios.specs.Commands.Command.{Command, Csv, Unknown, Unrea
 pub use Rattle.wi_scenarios.specs.Commands.Operands.{ADDR, ANY, CONTENT, Cell, CornerCells, LINES, NAME, Operand, RECT, SESSION, SIDE, WORD, address, area, cell, is_outside, second_input}
 pub use Rattle.wi_scenarios.specs.Commands.Step.{IsFirstOf, IsImportStep, IsStep, Tells, causes}
 pub use Rattle.wi_scenarios.specs.Events.{MayHappen, left_by}
-pub use Rattle.wi_scenarios.specs.Inner.Placed.{IsTablePlaced}
+pub use Rattle.wi_scenarios.specs.Inner.Calls.{IsTablePlaced}
 pub use Rattle.wi_scenarios.specs.Pending.{Book}
 pub use Rattle.wi_scenarios.specs.State.{State, max_area, new_state, state_over}
 pub use Rattle.wi_store.specs.Store.{Stored}

@@ -1,5 +1,5 @@
 -- The end of the step of an edit, and what it leaves: stale cells, the limits of the sheet, the edit.
-use Rattle.wi_scenarios.proofs.Words.{◌≡◌, ◌<◌, ◌≤◌, ℕ, Bool, true, false, nat_lt, nat_le, List, [], ◌∷◌, length, ◌⊎◌, inl, inr, Option, Some, None, Ok, Err, refl, sym, subst, arith, leb-true, ltb-true, Area, State, Answer, edit_answer, stale_in, Command, Put, Puts, is_forced, named, sheet_with, after_edit, Cause, BadLine, BadCommand, CutShort, Outside, Stale, Loop, Full, EditLimit, Holds, stale_cell, Does, IsStep, causes, IsFirstOf, accepted, not, ◌&&◌, ◌||◌, ◌++◌, map, ⊎_elim, Result, ap, ◌∙◌, slice_index_or, IfOk, IsErrAnd, keys_of, cases_lt, false_from_ne_true, false≢true, or_left, or_right, or_parts, or_cases, length-keys_of, Replacement, Content, Sheet, StoreFault, Stored, edited, change_without_empty, applied, shown, IsMarking, same_off_edited, accepted_is, Entry, Kept, effective, value_in, sheet_size, is_one_of, Session, new_session, Roster, pending_of, vacant_of, is_pending_for_all, all_have_so, one_of_all_has, Refusal, Memory, Desk, may_grow, MayRefuse, Serves, Edit, limit_of, with_stored, is_pending, AddsOnly, state_of, AreCovered, IsClosed, AreClosed, IsSound, AreMarked, HasRooms, SameBeside, MayFail, Commits, answer_by, none-some, both_ways, lt-ltb, le-leb, has_at, TooLarge, NoScenario, InUse, TooMany, BadField, TooLong, OutOfSheet, NumberRange, TooDeep, Syntax, LeavesSheet, Operand, WORD, may_force, list_any, cells_asked, codes, max_area}
+use Rattle.wi_scenarios.proofs.Words.{◌≡◌, ◌<◌, ◌≤◌, ℕ, Bool, true, false, nat_lt, nat_le, List, [], ◌∷◌, length, ◌⊎◌, inl, inr, Option, Some, None, Ok, Err, refl, sym, subst, arith, leb-true, ltb-true, Area, State, Answer, edit_answer, stale_in, Command, Put, Puts, is_forced, named, sheet_with, after_edit, Cause, BadLine, BadCommand, CutShort, Outside, Stale, Loop, Full, EditLimit, Holds, stale_cell, Does, IsStep, causes, IsFirstOf, accepted, not, ◌&&◌, ◌||◌, ◌++◌, map, ⊎_elim, Result, ap, ◌∙◌, slice_index_or, IfOk, IsErrAnd, keys_of, cases_lt, false_from_ne_true, false≢true, or_left, or_right, or_parts, or_cases, length-keys_of, Replacement, Content, Sheet, StoreFault, Stored, edited, change_without_empty, applied, shown, IsMarking, same_off_edited, accepted_is, Entry, Kept, effective, value_in, sheet_size, is_one_of, Session, new_session, Roster, pending_of, vacant_of, is_pending_for_all, all_have_so, one_of_all_has, Refusal, Memory, Desk, may_grow, MayRefuse, Serves, Edit, limit_of, is_pending, AddsOnly, state_of, AreCovered, IsClosed, AreClosed, IsSound, AreMarked, HasRooms, SameBeside, MayFail, Commits, answer_by, none-some, both_ways, lt-ltb, le-leb, has_at, TooLarge, NoScenario, InUse, TooMany, BadField, TooLong, OutOfSheet, NumberRange, TooDeep, Syntax, LeavesSheet, Operand, WORD, may_force, list_any, cells_asked, codes, max_area}
 use Rattle.wi_scenarios.specs.declared.refusal.Refusal.TheVariants as refusal
 use Rattle.wi_store.specs.declared.fault.StoreFault.TheVariants as store
 use Rattle.wi_scenarios.proofs.CallLemmas.{serves_as, lacked}
@@ -139,7 +139,8 @@ edit_lacks r s force e k =
 
 made : (s : State) (stored : Stored) (named : List Area) (scenarios : List Kept) (sessions : List Session) (current : ℕ) (log : List Entry) →
     scenarios ≡ s.scenarios → sessions ≡ s.sessions → current ≡ s.current → log ≡ s.log ++ record { session = s.current; areas = named } ∷ [] →
-    with_stored s named stored ≡ record { stored = stored; scenarios = scenarios; sessions = sessions; current = current; log = log }
+    ◌≡◌ {A = State} (record s { stored = stored; log = s.log ++ record { session = s.current; areas = named } ∷ [] })
+    (record { stored = stored; scenarios = scenarios; sessions = sessions; current = current; log = log })
 made s stored named scenarios sessions current log a b c d = cc
 
 kept : (s : State) (stored : Stored) (scenarios : List Kept) (sessions : List Session) (current : ℕ) (log : List Entry) →

@@ -67,18 +67,15 @@ pub use Rattle.wi_scenario_list.specs.Scenarios.{Scenario as Kept, chain_within,
 pub use Rattle.wi_scenarios.specs.Answer.{Answer, MayGrow, MayRefuse, MayRefuseData, Serves, ServesData, field_refusal, import_refusal, may_grow, parse_refusal, shift_refusal}
 pub use Rattle.wi_scenarios.specs.Commands.Causes.{BadCommand, BadField, BadLine, Cause, CutShort, EditLimit, Full, Holds, InUse, LeavesSheet, Loop, NoScenario, NumberRange, OutOfSheet, Outside, Stale, Syntax, TooDeep, TooLarge, TooLong, TooMany, is_bent, is_missing, lies_outside, cells_asked, stale_cell}
 pub use Rattle.wi_scenarios.specs.Commands.Command.{As, Base, Changes, Clear, Command, Compare, Csv, Drop, Export, Fill, Formula, Scenario, Set, Show, Table, Unknown, Unreadable, Use, form, may_force}
-pub use Rattle.wi_scenarios.specs.Commands.DataLines.{max_line, without_lf}
 pub use Rattle.wi_scenarios.specs.Commands.Does.{Does, state_with}
-pub use Rattle.wi_scenarios.specs.Commands.Operands.{Cell, CornerCells, Operand, WORD, address, area, cell, corners, is_outside, second_input}
+pub use Rattle.wi_scenarios.specs.Commands.Operands.{Cell, CornerCells, Operand, WORD, address, area, cell, corners, is_outside, second_input, max_line, without_lf}
 pub use Rattle.wi_scenarios.specs.Commands.Step.{IsFirstOf, IsImportStep, IsStep, Tells, causes}
 pub use Rattle.wi_scenarios.specs.Events.{Event, ForcedIsNotStale, IsCoherent, IsFirstNewer, KeepsApart, ListsAddUp, LogGrows, MayFollow, MayHappen, RecordsTellList, StaleIsNewer, StaysCoherent, change_fields, counts_before, edits_in, edits_since, is_accepted_changes, is_newer, is_refused_before, is_told, last_shown, left_by, lists_told, logged, logged_by, state_after, unseen, with_lists}
-pub use Rattle.wi_scenarios.specs.Inner.Copies.{AreCopies, CopiesAs, HasNoCopies, has_no_copy, or_nothing}
-pub use Rattle.wi_scenarios.specs.Inner.Calls.{Edits, IsDrop, IsMade, Looks, ServesInto}
-pub use Rattle.wi_scenarios.specs.Inner.Editing.{AreMarked, Commits, Edit, HasRooms, IsTold, MayFail, SameBeside, answer_by, edit_answer, limit_of, stale_in}
-pub use Rattle.wi_scenarios.specs.Inner.Placed.{IsSpanned, IsPlaced, IsTablePlaced}
+pub use Rattle.wi_scenarios.specs.Inner.Editing.{copy_to, AreCopies, CopiesAs, HasNoCopies, has_no_copy, or_nothing, AreMarked, Commits, Edit, HasRooms, IsTold, MayFail, SameBeside, answer_by, edit_answer, limit_of, stale_in}
+pub use Rattle.wi_scenarios.specs.Inner.Calls.{Edits, IsDrop, IsMade, Looks, ServesInto, IsSpanned, IsPlaced, IsTablePlaced}
 pub use Rattle.wi_scenarios.specs.Inner.Sound.{AreClosed, AreCovered, IsClosed, IsSound, IsUpToDate, MakesSound, ServesSound, book_by, book_of, pending_in, state_of}
 pub use Rattle.wi_scenarios.specs.Inner.Switch.{AreDiffering, Differs, HasRoom, HasRoomFor, differing, same_option}
-pub use Rattle.wi_scenarios.specs.Commands.Edits.{Put, Puts, after_edit, copied, copy_in, copy_to, fields, is_forced, named, sheet_with, with_stored}
+pub use Rattle.wi_scenarios.specs.Commands.Edits.{Put, Puts, after_edit, copied, copy_in, fields, is_forced, named, sheet_with}
 pub use Rattle.wi_scenarios.specs.Laws.{GivesChain, HasScenarioChanged, IsEdited, KeepsChains, Leaves, is_changes, named_by}
 pub use Rattle.wi_scenarios.specs.Pending.{AddsOnly, Book, IsMarked, IsTouched, SameForOthers, is_pending, counts, imported_cells, occupied_cells, occupied_in}
 pub use Rattle.wi_scenarios.specs.State.{State, max_area, state_over}

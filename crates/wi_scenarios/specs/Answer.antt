@@ -1,5 +1,6 @@
 -- What a command is answered.
-use Rattle.wi_scenarios.specs.Words.{◌≡◌, ℕ, Bool, true, false, not, List, [], Result, Ok, Err, ShiftFault, StoreFault, Refusal, State}
+use Rattle.std.specs.Prelude.{◌≡◌}
+use Rattle.wi_scenarios.specs.Words.{ℕ, Bool, true, false, not, List, [], Result, Ok, Err, ShiftFault, StoreFault, Refusal, State}
 use Rattle.wi_values.specs.declared.address.AddressFault.{AddressFault}
 use Rattle.wi_values.specs.declared.address.AddressFault.TheVariants.{Shape, Outside}
 use Rattle.wi_values.specs.declared.import.FieldFault.{FieldFault}

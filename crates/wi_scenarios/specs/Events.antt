@@ -1,7 +1,8 @@
 -- Commands one after another, each with its answer, and what holds of them: of the calls of a workbook as of the
 -- commands of a script. What differs between these are the parameters: which answers a command has, which one asks for
 -- the change list, and what an edit names.
-use Rattle.wi_scenarios.specs.Words.{◌≡◌, ◌≢◌, ◌↔◌, ◌⊎◌, ◌==◌, ◌&&◌, ℕ, ◌<◌, ◌≤◌, Bool, true, false, not, if◌then◌else◌, List, [], ◌∷◌, ◌++◌, length, drop, map, Option, Some, None, Ok, Err, list_any, address_text, Area, is_within_one, Value, recs, Entry, sheet_size, value_in, with_changes, kind_text, Refusal, State, session_at, shown_to, change_list}
+use Rattle.std.specs.Prelude.{◌≡◌, ◌≢◌, ◌↔◌, ◌⊎◌, ◌==◌, ◌&&◌, ◌<◌, ◌≤◌, if◌then◌else◌, ◌∷◌, ◌++◌}
+use Rattle.wi_scenarios.specs.Words.{ℕ, Bool, true, false, not, List, [], length, drop, map, Option, Some, None, Ok, Err, list_any, address_text, Area, is_within_one, Value, recs, Entry, sheet_size, value_in, with_changes, kind_text, Refusal, State, session_at, shown_to, change_list}
 use Rattle.wi_values.specs.Value.{shown_text}
 use Rattle.wi_scenarios.specs.declared.refusal.Refusal.TheVariants.{Memory, Full, EditLimit, Stale, Loop}
 use Rattle.wi_scenarios.specs.Answer.{Answer}

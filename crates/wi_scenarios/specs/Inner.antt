@@ -1,7 +1,5 @@
 -- Words of the code's own contracts. Nothing here needs belief.
-pub mod Copies
 pub mod Editing
 pub mod Calls
 pub mod Sound
 pub mod Switch
-pub mod Placed

@@ -1,6 +1,7 @@
 -- What a command leaves, and what the laws of `Events` are told of commands: which one asks for the change list, and
 -- what edits name.
-use Rattle.wi_scenarios.specs.Words.{◌≡◌, ◌≢◌, ℕ, Bool, true, false, List, [], ◌∷◌, ◌++◌, length, Option, Some, None, Area, chain, scenario_of, told, using_scenario, with_session, index_of, State, current_session, with_current, change_list}
+use Rattle.std.specs.Prelude.{◌≡◌, ◌≢◌, ◌∷◌, ◌++◌}
+use Rattle.wi_scenarios.specs.Words.{ℕ, Bool, true, false, List, [], length, Option, Some, None, Area, chain, scenario_of, told, using_scenario, with_session, index_of, State, current_session, with_current, change_list}
 use Rattle.wi_scenario_list.specs.Bases.{HasChains, IsChain}
 use Rattle.wi_scenarios.specs.Events.{Event, MayFollow, state_after}
 use Rattle.wi_scenarios.specs.Commands.Command.{Command, Set, Clear, Fill, Csv, Scenario, Drop, Base, Use, As, Changes}

@@ -1,6 +1,7 @@
 -- What a workbook is seen as, and which cells may be pending for its sessions: those that may differ from what they
 -- were shown; and the cases for which a command asks the calculator.
-use Rattle.wi_scenarios.specs.Words.{◌≡◌, ◌≢◌, ℕ, ◌<◌, ◌⊎◌, ◌++◌, ◌∷◌, Bool, true, ◌-◌, List, [], filter, map, length, All, slice_index_or, keys_of, Area, is_one_of, is_within, replaced, Sheet, fields_at, sheet_size, State, session_at, replacements_for, Option, Case, effective, cells_cases, rows_cases, comparison_cases, table_cases, current_replacements}
+use Rattle.std.specs.Prelude.{◌≡◌, ◌≢◌, ◌<◌, ◌⊎◌, ◌++◌, ◌∷◌, ◌-◌}
+use Rattle.wi_scenarios.specs.Words.{ℕ, Bool, true, List, [], filter, map, length, All, slice_index_or, keys_of, Area, is_one_of, is_within, replaced, Sheet, fields_at, sheet_size, State, session_at, replacements_for, Option, Case, effective, cells_cases, rows_cases, comparison_cases, table_cases, current_replacements}
 use Rattle.wi_import.specs.Inner.Reading.{field_cell}
 use Rattle.wi_sessions.specs.Roster.{SameCells}
 

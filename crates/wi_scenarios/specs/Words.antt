@@ -1,7 +1,7 @@
 -- What these definitions are written in: words of the library, of the crates below, and of a state and what is shown.
 pub use Rattle.std.specs.List.{All, AllZip, Any, Contains, concat, list_any, slice_index_or, slice_set}
 pub use Rattle.std.specs.Map.{keys_of}
-pub use Rattle.std.specs.Prelude.{Bool, Err, IfSome, IsTrue, List, None, Ok, OnErr, OnOk, Option, Result, Some, [], codes, drop, false, filter, if◌then◌else◌, is_ok, is_some, length, map, nat_le, not, option_map, pos, true, ℕ, ℤ, ◌&&◌, ◌*◌, ◌++◌, ◌+◌, ◌-ℤ◌, ◌-◌, ◌<◌, ◌==◌, ◌||◌, ◌↔◌, ◌∷◌, ◌≡◌, ◌≢◌, ◌≤◌, ◌⊎◌}
+pub use Rattle.std.specs.Prelude.{Bool, Err, IfSome, IsTrue, List, None, Ok, OnErr, OnOk, Option, Result, Some, [], codes, drop, false, filter, is_ok, is_some, length, map, nat_le, not, option_map, pos, true, ℕ, ℤ}
 pub use Rattle.std.specs.Str.{IsUtf8, byte}
 pub use Rattle.wi_csv.specs.Records.{recs}
 pub use Rattle.wi_edit_log.specs.EditLog.{Entry, first_stale}

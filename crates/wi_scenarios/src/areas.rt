@@ -3,7 +3,7 @@
 ghost use Rattle.std.specs.Prelude.{◌≡◌, nat_lt, IfSome};
 ghost use Rattle.wi_values.specs.Address.{size_of};
 ghost use Rattle.wi_scenarios.specs.State.{max_area};
-ghost use Rattle.wi_scenarios.specs.Inner.Placed.{IsPlaced, IsSpanned, IsTablePlaced};
+ghost use Rattle.wi_scenarios.specs.Inner.Calls.{IsPlaced, IsSpanned, IsTablePlaced};
 
 use wi_values::{Address, Rect};
 

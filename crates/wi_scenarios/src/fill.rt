@@ -5,9 +5,8 @@ ghost use Rattle.std.specs.Option.{option_copied};
 ghost use Rattle.wi_values.specs.Address.{rows, cells_of, cells_of_row};
 ghost use Rattle.wi_scenarios.specs.Commands.Command as command;
 ghost use Rattle.wi_scenarios.specs.Commands.Operands.{cell, corners};
-ghost use Rattle.wi_scenarios.specs.Commands.Edits.{copy_to};
 ghost use Rattle.wi_scenarios.specs.Inner.Calls.{IsEditBy};
-ghost use Rattle.wi_scenarios.specs.Inner.Copies.{CopiesAs, AreCopies, HasNoCopies};
+ghost use Rattle.wi_scenarios.specs.Inner.Editing.{copy_to, CopiesAs, AreCopies, HasNoCopies};
 ghost use Rattle.wi_scenarios.specs.Inner.Sound.{book_by, IsSound};
 
 use crate::areas::{is_placed, is_spanned, is_too_large};

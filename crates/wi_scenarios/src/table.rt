@@ -5,8 +5,7 @@ ghost use Rattle.std.specs.Prelude.{◌≡◌};
 ghost use Rattle.wi_scenarios.specs.Commands.Command as command;
 ghost use Rattle.wi_scenarios.specs.Commands.Operands.{cell, corners, second_input};
 ghost use Rattle.wi_scenarios.specs.Pending.{asked_by_table};
-ghost use Rattle.wi_scenarios.specs.Inner.Calls.{Looks};
-ghost use Rattle.wi_scenarios.specs.Inner.Placed.{IsTablePlaced};
+ghost use Rattle.wi_scenarios.specs.Inner.Calls.{Looks, IsTablePlaced};
 ghost use Rattle.wi_scenarios.specs.Inner.Sound.{book_by, state_of, IsSound};
 
 use crate::areas::MAX_AREA;

@@ -1,6 +1,7 @@
 -- The operands of commands, as they are read, and the commands that have them.
 use Rattle.wi_scenarios.specs.Commands.Command.{Set, Clear, Fill, Scenario, Drop, Base, Use, As, Show, Export, Changes, Compare, Table, Formula}
-use Rattle.wi_cli.specs.Inner.Words.{AddressFault, Area, BadCommand, Bool, Cell, Command, CornerCells, Err, IsStep, List, Memory, None, Ok, Option, Outside, Refusal, Result, Shape, Some, State, address, after_word, area, byte, bytes_eq, bytes_of, cell, codes, corners, digits_value, drop, false, first_word, form, if◌then◌else◌, is_ascii_alphabetic, is_column, is_outside, is_row, is_row_number, is_space, letters_value, lies_outside, list_all, list_any, nat_lt, operand_refusal, option_map, position, prefix_len, read_address, read_name, read_rect, result_err, take, ℕ, ◌&&◌, ◌+◌, ◌-◌, ◌==◌, ◌||◌, ◌≡◌, ◌≢◌}
+use Rattle.std.specs.Prelude.{if◌then◌else◌, ◌&&◌, ◌+◌, ◌-◌, ◌==◌, ◌||◌, ◌≡◌, ◌≢◌}
+use Rattle.wi_cli.specs.Inner.Words.{AddressFault, Area, BadCommand, Bool, Cell, Command, CornerCells, Err, IsStep, List, Memory, None, Ok, Option, Outside, Refusal, Result, Shape, Some, State, address, after_word, area, byte, bytes_eq, bytes_of, cell, codes, corners, digits_value, drop, false, first_word, form, is_ascii_alphabetic, is_column, is_outside, is_row, is_row_number, is_space, letters_value, lies_outside, list_all, list_any, nat_lt, operand_refusal, option_map, position, prefix_len, read_address, read_name, read_rect, result_err, take, ℕ}
 use Rattle.wi_cli.specs.declared.command.Command.{Command as ReadCommand}
 use Rattle.wi_cli.specs.declared.command.Command.TheVariants as read
 

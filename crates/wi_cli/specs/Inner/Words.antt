@@ -2,7 +2,7 @@
 pub use Rattle.std.specs.Char.{is_ascii_alphabetic}
 pub use Rattle.std.specs.Io.KnownBytes.{Appends, Consumes, IsAtEnd, prepend_known}
 pub use Rattle.std.specs.List.{concat, list_all, list_any, position, prefix_len}
-pub use Rattle.std.specs.Prelude.{Bool, Err, List, MatchResult, None, Ok, Option, Result, Some, [], codes, drop, false, filter, filter_map, if◌then◌else◌, is_ok, length, nat_le, nat_lt, not, option_map, option_to_list, take, true, ℕ, ◌%◌, ◌&&◌, ◌*◌, ◌++◌, ◌+◌, ◌-◌, ◌/◌, ◌<◌, ◌==◌, ◌||◌, ◌∷◌, ◌≡◌, ◌≢◌, ◌≤◌}
+pub use Rattle.std.specs.Prelude.{Bool, Err, List, MatchResult, None, Ok, Option, Result, Some, [], codes, drop, false, filter, filter_map, is_ok, length, nat_le, nat_lt, not, option_map, option_to_list, take, true, ℕ}
 pub use Rattle.std.specs.Result.{result_err}
 pub use Rattle.std.specs.Str.{all_ascii_digits, byte, bytes_eq, is_utf8}
 pub use Rattle.std.specs.Str.Parse.{digits_value}

@@ -1,12 +1,12 @@
 -- For which causes a command is refused, and which of them is answered.
-use Rattle.wi_scenarios.specs.Words.{◌≡◌, ◌≢◌, ◌*◌, ◌<◌, ◌≤◌, ◌⊎◌, ℕ, Bool, false, not, IsTrue, ◌||◌, ◌&&◌, ◌==◌, List, [], ◌∷◌, length, Option, Some, None, codes, Any, Contains, list_any, IsUtf8, Bytes, size_of, cells_of, IsImported, HasSymbols, IsTooLong, IsInside, first_stale, chain, has_scenario, is_full, has_session, max_sessions, State, max_area, current_session}
+use Rattle.std.specs.Prelude.{◌≡◌, ◌≢◌, ◌*◌, ◌<◌, ◌≤◌, ◌⊎◌, ◌||◌, ◌&&◌, ◌==◌, ◌∷◌}
+use Rattle.wi_scenarios.specs.Words.{ℕ, Bool, false, not, IsTrue, List, [], length, Option, Some, None, codes, Any, Contains, list_any, IsUtf8, Bytes, size_of, cells_of, IsImported, HasSymbols, IsTooLong, IsInside, first_stale, chain, has_scenario, is_full, has_session, max_sessions, State, max_area, current_session}
 use Rattle.wi_parser.specs.declared.fault.ParseFault.TheVariants as parse
 use Rattle.wi_parser.specs.Nesting.{is_too_deep}
 use Rattle.wi_parser.specs.Spelling.{IsSpelling}
 use Rattle.wi_parser.specs.Symbol.{bad_token}
 use Rattle.wi_parser.specs.Tree.{Tree}
-use Rattle.wi_scenarios.specs.Commands.DataLines.{max_line, without_lf}
-use Rattle.wi_scenarios.specs.Commands.Operands.{Cell, CornerCells, is_outside, address, area, Operand, ADDR, RECT, NAME, SIDE, ANY}
+use Rattle.wi_scenarios.specs.Commands.Operands.{Cell, CornerCells, is_outside, address, area, Operand, ADDR, RECT, NAME, SIDE, ANY, max_line, without_lf}
 use Rattle.wi_scenarios.specs.Commands.Command.{Command, Set, Clear, Fill, Csv, Scenario, Drop, Base, As, Table, Unknown, Unreadable, form}
 use Rattle.wi_scenarios.specs.Commands.Edits.{is_forced, named, fields, copy_in, Put, Puts, sheet_with}
 

@@ -1,5 +1,6 @@
 -- The commands of the script, and how each is written.
-use Rattle.wi_scenarios.specs.Words.{ℕ, Bool, true, false, List, [], ◌∷◌, Option, Some, None, codes, Bytes}
+use Rattle.std.specs.Prelude.{◌∷◌}
+use Rattle.wi_scenarios.specs.Words.{ℕ, Bool, true, false, List, [], Option, Some, None, codes, Bytes}
 use Rattle.wi_scenarios.specs.Commands.Operands.{Cell, CornerCells, Operand, WORD, ADDR, RECT, NAME, SESSION, SIDE, ANY, LINES, CONTENT}
 
 -- What a line asks for, whatever its operands are worth. `Csv` has the number of data lines asked for and those that

@@ -1,5 +1,6 @@
 -- What a command does that is accepted.
-use Rattle.wi_scenarios.specs.Words.{◌≡◌, length, List, [], ◌∷◌, Some, option_map, Bytes, Value, IsImported, scenario_for, with_scenario, without_scenario, with_own, without_own, chain, layered, shown, with_session, index_of, with_changes, change_records, State, current_session, with_current, current_replacements, change_list}
+use Rattle.std.specs.Prelude.{◌≡◌, ◌∷◌}
+use Rattle.wi_scenarios.specs.Words.{length, List, [], Some, option_map, Bytes, Value, IsImported, scenario_for, with_scenario, without_scenario, with_own, without_own, chain, layered, shown, with_session, index_of, with_changes, change_records, State, current_session, with_current, current_replacements, change_list}
 use Rattle.wi_scenario_list.specs.Scenarios as list
 use Rattle.wi_reports.specs.Rows.{rows_shown, export_of}
 use Rattle.wi_reports.specs.Compare.{cells_compared}

@@ -1,5 +1,6 @@
 -- What the commands that edit the sheet name and put.
-use Rattle.wi_scenarios.specs.Words.{◌≡◌, ◌+◌, ℕ, ℤ, pos, ◌-ℤ◌, Bool, false, List, [], ◌∷◌, ◌++◌, map, filter, Option, Some, None, option_map, AllZip, concat, keys_of, Bytes, Area, is_within, cells_of, row_of, column_of, Content, IsContent, Sheet, content_of, recs, Field, fields_from, areas_from, edited, without_empty, State, Stored}
+use Rattle.std.specs.Prelude.{◌≡◌, ◌+◌, ◌-ℤ◌, ◌∷◌, ◌++◌}
+use Rattle.wi_scenarios.specs.Words.{ℕ, ℤ, pos, Bool, false, List, [], map, filter, Option, Some, None, option_map, AllZip, concat, keys_of, Bytes, Area, is_within, cells_of, row_of, column_of, Content, IsContent, Sheet, content_of, recs, Field, fields_from, areas_from, edited, without_empty, State}
 use Rattle.wi_parser.specs.declared.content.Content.TheVariants.{Constant, Formula}
 use Rattle.wi_parser.specs.Shift.{shifted}
 use Rattle.wi_import.specs.Imports.{IsChange}
@@ -29,20 +30,13 @@ copied down right None = Some None
 copied down right (Some (Constant v)) = Some (Some (Constant v))
 copied down right (Some (Formula t)) = option_map (λ u. Some (Formula u)) (shifted down right t)
 
--- the copy of a content that stands in a cell for another cell
-abbrev pub copy_to : Option Content → ℕ → ℕ → Option (Option Content)
-copy_to content from to = copied (pos (row_of to) -ℤ pos (row_of from)) (pos (column_of to) -ℤ pos (column_of from)) content
-
 abbrev pub Put : Type 0
 Put = ℕ × Option Content
 
--- the state after an edit, which enters the log
-abbrev pub with_stored : State → List Area → Stored → State
-with_stored s areas stored = record s { stored = stored; log = s.log ++ record { session = s.current; areas = areas } ∷ [] }
-
 module _ (s : State) where
   abbrev pub copy_in : ℕ → ℕ → Option (Option Content)
-  copy_in from to = copy_to (content_of s.stored.sheet from) from to
+  copy_in from to =
+      copied (pos (row_of to) -ℤ pos (row_of from)) (pos (column_of to) -ℤ pos (column_of from)) (content_of s.stored.sheet from)
 
   abbrev pub Puts : Command → List Put → Type 0
   Puts (Set force at text) puts = (c : Content) × IsContent text c × (puts ≡ (address at, Some c) ∷ [])
@@ -56,5 +50,7 @@ module _ (s : State) where
   sheet_with puts = edited s.stored.sheet (map (λ p. (p.0, without_empty p.1)) puts)
 
   abbrev pub after_edit : Command → List Put → State
-  after_edit c puts =
-      with_stored s (named c) (record { sheet = sheet_with puts; edits = s.stored.edits + 1; limits = s.stored.limits })
+  after_edit c puts = record s {
+    stored = record { sheet = sheet_with puts; edits = s.stored.edits + 1; limits = s.stored.limits };
+    log = s.log ++ record { session = s.current; areas = named c } ∷ [];
+  }

@@ -1,5 +1,6 @@
 -- The operands of commands, whether the sheet has the cells or not.
-use Rattle.wi_scenarios.specs.Words.{ℕ, Bool, ◌||◌, nat_le, Option, option_map, Bytes, Area, rows, columns, place, row_of, column_of, rect_of}
+use Rattle.std.specs.Prelude.{◌||◌, ◌==◌, ◌∷◌, if◌then◌else◌}
+use Rattle.wi_scenarios.specs.Words.{ℕ, Bool, nat_le, Option, option_map, Bytes, Area, rows, columns, place, row_of, column_of, rect_of, [], byte}
 
 -- a cell by its row and its column, counted from 0, of any size
 pub record Cell : Type 0 where
@@ -40,3 +41,13 @@ pub data Operand : Type 0 where
   SIDE : Option Bytes → Operand
   -- any word, which spells this cell, or none
   ANY : Option Cell → Operand
+
+-- ---- what each line is held to, the data lines of an import too
+
+abbrev pub without_lf : Bytes → Bytes
+without_lf [] = []
+without_lf (b ∷ bs) = if b == byte "\n" then [] else b ∷ without_lf bs
+
+-- without its LF
+abbrev pub max_line : ℕ
+max_line = 65536

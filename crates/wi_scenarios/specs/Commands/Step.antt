@@ -1,9 +1,9 @@
 -- A step as the calls of a workbook tell it, which refuse by `Refusal`.
-use Rattle.wi_scenarios.specs.Words.{◌≡◌, ◌≤◌, ◌⊎◌, ℕ, Bool, List, [], ◌∷◌, length, map, Some, Ok, Err, All, concat, Bytes, Refusal, State}
+use Rattle.std.specs.Prelude.{◌≡◌, ◌≤◌, ◌⊎◌, ◌∷◌}
+use Rattle.wi_scenarios.specs.Words.{ℕ, Bool, List, [], length, map, Some, Ok, Err, All, concat, Bytes, Refusal, State}
 use Rattle.wi_scenarios.specs.declared.refusal.Refusal.TheVariants as refusal
 use Rattle.wi_scenarios.specs.Answer.{Answer}
-use Rattle.wi_scenarios.specs.Commands.DataLines.{max_line, without_lf}
-use Rattle.wi_scenarios.specs.Commands.Operands.{cell}
+use Rattle.wi_scenarios.specs.Commands.Operands.{cell, max_line, without_lf}
 use Rattle.wi_scenarios.specs.Commands.Command.{Command, Csv}
 use Rattle.wi_scenarios.specs.Commands.Causes.{Cause, BadLine, BadCommand, CutShort, Outside, TooLarge, NoScenario, InUse, TooMany, BadField, TooLong, OutOfSheet, NumberRange, TooDeep, Syntax, LeavesSheet, Stale, Loop, Full, EditLimit, order, Holds, stale_cell}
 use Rattle.wi_scenarios.specs.Commands.Does.{Does}

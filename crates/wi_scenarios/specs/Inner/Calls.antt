@@ -1,7 +1,9 @@
 -- What a call of a workbook leaves, from one book to the next: of each command what its method and its code promise.
-use Rattle.wi_scenarios.specs.Words.{◌≡◌, ◌≢◌, ℕ, Bool, true, false, List, [], ◌++◌, Result, Err, OnOk, OnErr, is_ok, keys_of, Sheet, Case, has_session, Costs, Refusal, State, slice_set}
+use Rattle.std.specs.Prelude.{◌≡◌, ◌≢◌, ◌++◌, ◌||◌}
+use Rattle.wi_scenarios.specs.Words.{ℕ, Bool, true, false, List, [], Result, Err, OnOk, OnErr, is_ok, keys_of, Sheet, Case, has_session, Costs, Refusal, State, slice_set, Option, IfSome, Area}
 use Rattle.wi_scenarios.specs.declared.refusal.Refusal.TheVariants.{Memory}
 use Rattle.wi_scenarios.specs.Answer.{Answer, Serves, ServesData}
+use Rattle.wi_scenarios.specs.Commands.Operands.{is_outside, address, area, cell, corners}
 use Rattle.wi_scenarios.specs.Commands.Command.{Command, Drop, As, Changes}
 use Rattle.wi_scenarios.specs.Commands.Step.{IsStep, IsImportStep}
 use Rattle.wi_scenarios.specs.Pending.{Book, asked_by_changes, AddsOnly, SameCounts, counts, HasNewSession, pending_for, imported_cells}
@@ -61,3 +63,20 @@ pub record IsChanges (result : Result (Unit {0}) Refusal) (old new : Book) (befo
   pub quiet : pending_for old.pending old.state.current ≡ [] → SameCounts old new × (after ≡ before)
   pub quiet_ok : pending_for old.pending old.state.current ≡ [] → is_ok result ≡ true
   pub cost : Costs old.state.stored.sheet (asked_by_changes old.state old.pending) (counts old) (counts new)
+
+-- ---- addresses and rectangles as operands: the sheet has them
+
+pub record IsPlaced (a : ℕ) : Type 0 where
+  pub inside : is_outside (cell a) ≡ false
+  pub again : address (cell a) ≡ a
+
+pub record IsSpanned (r : Area) : Type 0 where
+  pub inside : (is_outside (corners r).0 || is_outside (corners r).1) ≡ false
+  pub again : area (corners r) ≡ r
+
+-- the operands of a table
+pub record IsTablePlaced (f r : ℕ) (xs : Area) (y : Option (ℕ × Area)) : Type 0 where
+  pub formula_cell : IsPlaced f
+  pub input : IsPlaced r
+  pub column : IsSpanned xs
+  pub second : IfSome y (λ o. IsPlaced o.0 × IsSpanned o.1)

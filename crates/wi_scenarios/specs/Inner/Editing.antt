@@ -1,10 +1,12 @@
--- What an edit is answered where no cause of its own command holds, what it finds on its way, and what a change list
--- that is told changes.
-use Rattle.wi_scenarios.specs.Words.{ℕ, Bool, if◌then◌else◌, List, [], ◌∷◌, ◌++◌, Option, Some, None, Result, Ok, Err, ◌≡◌, ◌<◌, ◌⊎◌, true, not, ◌&&◌, length, Area, is_one_of, Content, first_stale, Entry, StoreFault, Stored, applied, keys_of, Sheet, slice_set, Value, told, Refusal, State, current_session}
+-- What an edit is answered where no cause of its own command holds, what it finds on its way, what a change list that
+-- is told changes, and copies of a content.
+use Rattle.std.specs.Prelude.{◌-ℤ◌, if◌then◌else◌, ◌∷◌, ◌++◌, ◌≡◌, ◌<◌, ◌⊎◌, ◌&&◌}
+use Rattle.wi_scenarios.specs.Words.{ℕ, pos, row_of, column_of, Bool, List, [], Option, Some, None, Result, Ok, Err, true, not, length, Area, is_one_of, Content, first_stale, Entry, StoreFault, Stored, applied, keys_of, Sheet, slice_set, Value, told, Refusal, State, current_session, false, map, is_some, list_any, ShiftFault}
 use Rattle.wi_sessions.specs.Roster.{Roster, session_at, pending_of, vacant_of}
 use Rattle.wi_scenarios.specs.declared.refusal.Refusal.TheVariants.{Stale, Memory}
 use Rattle.wi_scenarios.specs.Answer.{Answer, edit_refusal}
-use Rattle.wi_scenarios.specs.Commands.Edits.{with_stored}
+use Rattle.wi_scenarios.specs.Commands.Edits.{copied}
+use Rattle.wi_parser.specs.declared.shift.ShiftFault.TheVariants as shift
 use Rattle.wi_scenarios.specs.declared.desk.Desk.{Desk}
 
 -- an edit: the rectangles that it names, and what each of some cells gets: a content, or none
@@ -24,7 +26,8 @@ stale_in s force named = if force then None else first_stale s.log s.current (cu
 -- a stale cell counts before the sheet's limits
 abbrev pub answer_by : State → Option ℕ → List Area → Result Stored StoreFault → Answer
 answer_by s (Some at) named r = Err (Stale at)
-answer_by s None named (Ok stored) = Ok (with_stored s named stored, [])
+answer_by s None named (Ok stored) =
+    Ok (record s { stored = stored; log = s.log ++ record { session = s.current; areas = named } ∷ [] }, [])
 answer_by s None named (Err e) = Err (edit_refusal e)
 
 abbrev pub edit_answer : State → Bool → Edit → Answer
@@ -72,3 +75,31 @@ pub record IsTold (old : Desk) (changes : List (ℕ × Value)) (new : Desk) : Ty
   pub scenarios : new.scenarios ≡ old.scenarios
   pub current : new.current ≡ old.current
   pub log : new.log ≡ old.log
+
+-- ---- copies of a content, made one after another
+
+abbrev pub copy_to : Option Content → ℕ → ℕ → Option (Option Content)
+copy_to content from to = copied (pos (row_of to) -ℤ pos (row_of from)) (pos (column_of to) -ℤ pos (column_of from)) content
+
+abbrev pub has_no_copy : Option Content → ℕ → ℕ → Bool
+has_no_copy content from to = not (is_some (copy_to content from to))
+
+abbrev pub or_nothing : Option (Option Content) → Option Content
+or_nothing None = None
+or_nothing (Some o) = o
+
+-- what is found is answered, and LeavesSheet where nothing is; or Memory, which says nothing of it
+abbrev pub CopiesAs : Option (Option Content) → Result (Option Content) ShiftFault → Type 0
+CopiesAs found (Ok copy) = found ≡ Some copy
+CopiesAs found (Err shift.LeavesSheet) = found ≡ None
+CopiesAs found (Err shift.Memory) = Unit {0}
+
+-- each of some cells has a copy, and gets it
+pub record AreCopies (content : Option Content) (from : ℕ) (cells : List ℕ) (changes : List (ℕ × Option Content)) : Type 0 where
+  pub all : list_any (has_no_copy content from) cells ≡ false
+  pub each : changes ≡ map (λ to. (to, or_nothing (copy_to content from to))) cells
+
+-- a cell has no copy; or Memory, which says nothing of it
+abbrev pub HasNoCopies : Option Content → ℕ → List ℕ → ShiftFault → Type 0
+HasNoCopies content from cells shift.LeavesSheet = list_any (has_no_copy content from) cells ≡ true
+HasNoCopies content from cells shift.Memory = Unit {0}

@@ -1,5 +1,6 @@
 -- What the fields of a workbook stand for, and what holds of them between commands.
-use Rattle.wi_scenarios.specs.Words.{◌≡◌, ℕ, ◌<◌, ◌≤◌, Bool, true, false, List, [], ◌∷◌, length, Result, OnOk, OnErr, Sheet, Stored, value_in, sheet_size, max_sessions, State, session_at, shown_to, Refusal}
+use Rattle.std.specs.Prelude.{◌≡◌, ◌<◌, ◌≤◌, ◌∷◌}
+use Rattle.wi_scenarios.specs.Words.{ℕ, Bool, true, false, List, [], length, Result, OnOk, OnErr, Sheet, Stored, value_in, sheet_size, max_sessions, State, session_at, shown_to, Refusal}
 use Rattle.std.specs.declared.alloc.AllocError.{AllocError}
 use Rattle.wi_sessions.specs.Roster.{vacant_of}
 use Rattle.wi_scenarios.specs.Pending.{Book, AddsOnly, is_pending}

@@ -1,5 +1,6 @@
 -- What there is room for where a scenario that puts in something else takes the place of one.
-use Rattle.wi_scenarios.specs.Words.{◌≡◌, ◌≢◌, ◌||◌, ℕ, Bool, true, false, List, [], ◌∷◌, not, filter, map, Option, Some, None, Value, replaced, is_one_of, Sheet, shown, Scenario, effective, same_value}
+use Rattle.std.specs.Prelude.{◌≡◌, ◌≢◌, ◌||◌, ◌∷◌}
+use Rattle.wi_scenarios.specs.Words.{ℕ, Bool, true, false, List, [], not, filter, map, Option, Some, None, Value, replaced, is_one_of, Sheet, shown, Scenario, effective, same_value}
 use Rattle.wi_values.specs.declared.replacement.Replacement.{Replacement}
 use Rattle.wi_sessions.specs.Roster.{Roster, session_at, pending_of, vacant_of}
 use Rattle.wi_scenarios.specs.Pending.{IsMarked}
