@@ -1,5 +1,5 @@
 -- Steps of a search among what a cell reads.
-use Rattle.wi_graph.proofs.Words.{◌≡◌, ◌==◌, ◌&&◌, ◌||◌, ◌⊎◌, inl, inr, ℕ, ◌+◌, ◌<◌, ◌≤◌, Bool, true, false, cond, filter, nat_le, List, [], ◌∷◌, ◌++◌, take, get_or, length, Option, Some, None, is_some, refl, ap, sym, ◌∙◌, subst, arith, or-false, or_assoc, or_cases, or_left, or_right, and_parts, and_from, cases_lt, false_from_ne_true, le-leb, leb-true, list_any-append, sorted_head, sorted_tail, find, AllByRecursion, IsStrictlySortedBy, keys_of, lookup, nat_cmp, Less, is_at, insert_entry, Area, is_within, found-insert, below_from_Less, within_between, taken_more, CellEntries, get, IsOrdered, is_one_of, Rooms, in_room, room_at, areas_of, is_within_one, is_ahead, has_visited, HasAreas, HasRest, IsLookedAt, IsSearchingBelow, ReachesNot}
+use Rattle.wi_graph.proofs.Words.{◌≡◌, ◌==◌, ◌&&◌, ◌||◌, ◌⊎◌, inl, inr, ℕ, ◌+◌, ◌<◌, ◌≤◌, Bool, true, false, true≢false, cond, filter, nat_le, List, [], ◌∷◌, ◌++◌, take, get_or, length, Option, Some, None, is_some, refl, ap, sym, ◌∙◌, subst, arith, or-false, or_assoc, or_cases, or_left, or_right, and_parts, and_from, cases_lt, false_from_ne_true, le-leb, leb-true, list_any-append, sorted_head, sorted_tail, find, AllByRecursion, IsStrictlySortedBy, keys_of, lookup, nat_cmp, Less, is_at, insert_entry, Area, is_within, found-insert, below_from_Less, within_between, taken_more, CellEntries, get, IsOrdered, is_one_of, Rooms, in_room, room_at, areas_of, is_within_one, is_ahead, is_passed, has_visited, AreFound, HasAreas, HasRest, IsLookedAt, IsSearchingBelow, ReachesNot}
 use Rattle.std.proofs.lemmas.List.{take_all}
 use Rattle.wi_graph.proofs.Tests.{is_itself, turn_test, clash}
 use Rattle.wi_graph.proofs.Walks.{same_cell}
@@ -237,18 +237,108 @@ visited_one {X} old new a v e c = at (get nat_cmp old a) refl e
     at (Some w) h k = ap (λ (es : List (ℕ × X)). is_some (lookup (is_at (nat_cmp c)) es)) k ∙ there (a == c) refl (ap (λ (o : Option X). is_some o) h)
     at None h k = ap (λ (es : List (ℕ × X)). is_some (lookup (is_at (nat_cmp c)) es)) k ∙ ap (λ (o : Option X). is_some o) (found-insert old.entries a v c ∙ ap (λ (b : Bool). cond b (Some v) (lookup (is_at (nat_cmp c)) old.entries)) (turn_test c a)) ∙ put (a == c)
 
+passed_more : (v k n : Bool) → ((v || n) || k) ≡ ((v || k) || n)
+passed_more true k n = refl
+passed_more false true true = refl
+passed_more false true false = refl
+passed_more false false n = or-false n
+
+pub passed_one : {X : Type 0} (old new : CellEntries X) (known : ℕ → Bool) (a : ℕ) → ((c : ℕ) → has_visited new c ≡ (has_visited old c || (a == c))) → (c : ℕ) → is_passed new known c ≡ (is_passed old known c || (a == c))
+passed_one {X} old new known a e c = ap (λ (b : Bool). b || known c) (e c) ∙ passed_more (has_visited old c) (known c) (a == c)
+
+-- ---- what is found among what the cell reads now
+
+pub found_start : (rooms : Rooms) (cell : ℕ) (areas : List Area) (known visited : ℕ → Bool) (ahead : List (Area × ℕ)) → ((x : ℕ) → visited x ≡ false) → HasAreas cell areas [] ahead → IsSearchingBelow rooms cell areas known [] → AreFound rooms cell known visited ahead
+found_start rooms cell areas known visited ahead e a s = record {
+  found = λ x i. clash (visited x) i (e x);
+  to_come = λ d i. s.first d (sym (a.more d) ∙ i);
+}
+
+pub none_found : (rooms : Rooms) (cell : ℕ) (known visited : ℕ → Bool) → ((x : ℕ) → visited x ≡ false) → AreFound rooms cell known visited []
+none_found rooms cell known visited e = record { found = λ x i. clash (visited x) i (e x); to_come = λ d i. absurd (true≢false (sym i)) }
+
+pub all_found : (rooms : Rooms) (cell : ℕ) (known visited : ℕ → Bool) (ahead : List (Area × ℕ)) → AreFound rooms cell known visited ahead → AreFound rooms cell known visited []
+all_found rooms cell known visited ahead f = record { found = f.found; to_come = λ d i. absurd (true≢false (sym i)) }
+
+-- a rectangle has no more, or was looked at
+pub found_none : (rooms : Rooms) (cell : ℕ) (known visited : ℕ → Bool) (ahead : List (Area × ℕ)) (area : Area) (from : ℕ) → AreFound rooms cell known visited (ahead ++ (area, from) ∷ []) → AreFound rooms cell known visited ahead
+found_none rooms cell known visited ahead area from f = record {
+  found = f.found;
+  to_come = λ d i. f.to_come d (ahead_last ahead area from d ∙ or_left (is_ahead ahead d) _ i);
+}
+
+module _ (rooms : Rooms) (cell : ℕ) (areas : List Area) (known visited more : ℕ → Bool) (ahead mid : List (Area × ℕ)) (area : Area) (from read : ℕ) (s : IsSearchingBelow rooms cell areas known []) (f : AreFound rooms cell known visited (ahead ++ (area, from) ∷ []))
+    (first : (is_within area read ≡ true) × (nat_le from read ≡ true)) (r : HasRest area read ahead mid) (g : (d : ℕ) → more d ≡ (visited d || (read == d))) where
+  read_found : IsLookedAt rooms cell known [] read
+  read_found = f.to_come read (ahead_last ahead area from read ∙ or_right (is_ahead ahead read) _ (and_from (is_within area read) (nat_le from read) first.0 first.1))
+
+  rest_found : (d : ℕ) → is_ahead mid d ≡ true → IsLookedAt rooms cell known [] d
+  rest_found d i = at (r.within d i)
+    where
+      at : (is_ahead ahead d ≡ true) ⊎ ((is_within area d ≡ true) × (read < d)) → IsLookedAt rooms cell known [] d
+      at (inl j) = f.to_come d (ahead_last ahead area from d ∙ or_left (is_ahead ahead d) _ j)
+      at (inr k) =
+          let m = leb-true from read first.1 in
+          let n : from ≤ d = omega (arith, m, k.1) in
+          f.to_come d (ahead_last ahead area from d ∙ or_right (is_ahead ahead d) _ (and_from (is_within area d) (nat_le from d) k.0 (le-leb from d n)))
+
+  more_found : (e : ℕ) → more e ≡ true → IsLookedAt rooms cell known [] e
+  more_found e i = at (more_cases visited more read g e i)
+    where
+      at : (read ≡ e) ⊎ (visited e ≡ true) → IsLookedAt rooms cell known [] e
+      at (inl k) = subst (λ (x : ℕ). IsLookedAt rooms cell known [] x) k read_found
+      at (inr k) = f.found e k
+
+  -- one that was found before
+  pub found_old : AreFound rooms cell known more mid
+  found_old = record { found = more_found; to_come = rest_found }
+
+  -- one that is new: what it reads is known too
+  pub found_new : (after : List (Area × ℕ)) → HasAreas cell (areas_of (room_at rooms read)) mid after → AreFound rooms cell known more after
+  found_new after a = record { found = more_found; to_come = λ d i. at d (or_cases (is_ahead mid d) _ (sym (a.more d) ∙ i)) }
+    where
+      its : (d : ℕ) → is_within_one (areas_of (room_at rooms read)) d ≡ true → (room_at rooms read ≡ None) ⊎ ((known read ≡ true) ⊎ (is_ahead [] read ≡ true)) → IsLookedAt rooms cell known [] d
+      its d j (inl e) = absurd (true≢false (sym j ∙ ap (λ (o : Option (List Area)). is_within_one (areas_of o) d) e))
+      its d j (inr (inl k)) = s.reads read d k j
+      its d j (inr (inr k)) = absurd (true≢false (sym k))
+
+      at : (d : ℕ) → (is_ahead mid d ≡ true) ⊎ (is_within_one (areas_of (room_at rooms read)) d ≡ true) → IsLookedAt rooms cell known [] d
+      at d (inl j) = rest_found d j
+      at d (inr j) = its d j read_found.1
+
 -- ---- how it begins and ends
 
-pub below_start : (rooms : Rooms) (cell : ℕ) (areas : List Area) (visited : ℕ → Bool) (ahead : List (Area × ℕ)) → ((x : ℕ) → visited x ≡ false) → HasAreas cell areas [] ahead → IsSearchingBelow rooms cell areas visited ahead
-below_start rooms cell areas visited ahead e a = record {
+pub below_start : {X : Type 0} (rooms : Rooms) (cell : ℕ) (now areas : List Area) (known : ℕ → Bool) (cells : CellEntries X) (ahead : List (Area × ℕ)) → IsSearchingBelow rooms cell now known [] → AreFound rooms cell known (has_visited cells) [] → HasAreas cell areas [] ahead → IsSearchingBelow rooms cell areas (is_passed cells known) ahead
+below_start {X} rooms cell now areas known cells ahead s f a = record {
   first = λ d i. (not_it d i, inr (inr (a.more d ∙ i)));
-  reads = λ x d i j. clash (visited x) i (e x);
-  apart = λ x i. clash (visited x) i (e x);
+  reads = λ e d i j. at e d j (or_cases (has_visited cells e) (known e) i);
+  apart = λ e i. other e (or_cases (has_visited cells e) (known e) i);
   apart_ahead = λ d i. not_it d (sym (a.more d) ∙ i);
 }
   where
     not_it : (d : ℕ) → is_within_one areas d ≡ true → (cell == d) ≡ false
     not_it d i = false_from_ne_true (cell == d) (λ k. clash (is_within_one areas cell) (ap (is_within_one areas) (same_cell d cell k) ∙ i) a.apart)
+
+    wider : (d : ℕ) → (room_at rooms d ≡ None) ⊎ ((known d ≡ true) ⊎ (is_ahead [] d ≡ true)) → (room_at rooms d ≡ None) ⊎ ((is_passed cells known d ≡ true) ⊎ (is_ahead ahead d ≡ true))
+    wider d (inl e) = inl e
+    wider d (inr (inl k)) = inr (inl (or_right (has_visited cells d) (known d) k))
+    wider d (inr (inr k)) = absurd (true≢false (sym k))
+
+    of_known : (e d : ℕ) → is_within_one (areas_of (room_at rooms e)) d ≡ true → known e ≡ true → IsLookedAt rooms cell (is_passed cells known) ahead d
+    of_known e d j k = let x = s.reads e d k j in (x.0, wider d x.1)
+
+    of_found : (e d : ℕ) → is_within_one (areas_of (room_at rooms e)) d ≡ true → (room_at rooms e ≡ None) ⊎ ((known e ≡ true) ⊎ (is_ahead [] e ≡ true)) → IsLookedAt rooms cell (is_passed cells known) ahead d
+    of_found e d j (inl n) = absurd (true≢false (sym j ∙ ap (λ (o : Option (List Area)). is_within_one (areas_of o) d) n))
+    of_found e d j (inr (inl k)) = of_known e d j k
+    of_found e d j (inr (inr k)) = absurd (true≢false (sym k))
+
+    at : (e d : ℕ) → is_within_one (areas_of (room_at rooms e)) d ≡ true → (has_visited cells e ≡ true) ⊎ (known e ≡ true) → IsLookedAt rooms cell (is_passed cells known) ahead d
+    at e d j (inl v) = of_found e d j (f.found e v).1
+    at e d j (inr k) = of_known e d j k
+
+    other : (e : ℕ) → (has_visited cells e ≡ true) ⊎ (known e ≡ true) → (cell == e) ≡ false
+    other e (inl v) = (f.found e v).0
+    other e (inr k) = s.apart e k
 
 pub below_end : (rooms : Rooms) (cell : ℕ) (areas : List Area) (visited : ℕ → Bool) (ahead : List (Area × ℕ)) → ahead ≡ [] → IsSearchingBelow rooms cell areas visited ahead → ReachesNot rooms cell areas
 below_end rooms cell areas visited ahead e s = (visited, subst (IsSearchingBelow rooms cell areas visited) e s)

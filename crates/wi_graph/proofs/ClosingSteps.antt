@@ -1,10 +1,10 @@
 -- Edits that close no cycle.
-use Rattle.wi_graph.proofs.Words.{◌≡◌, ◌==◌, ◌&&◌, ◌||◌, ◌⊎◌, inl, inr, ℕ, Bool, true, false, cond, filter, nat_le, get_or, length, arith, List, [], ◌∷◌, Option, Some, None, IfSome, is_some, refl, ap, sym, ◌∙◌, subst, or_cases, or_left, or_right, or_parts, or-false, and_parts, and_from, false_from_ne_true, le-leb, nil_from_length, list_any, find, keys_of, lookup, nat_cmp, is_at, BTreeSet, btree_set_len, contains, SmallVec, one_truth, Area, is_within, within_between, Content, Sheet, content_of, content_reads, circular, is_one_of, areas_in, Turns, areas_then, Brings, IsEditCone, Rooms, Coming, brought_to, in_room, items_of, room_at, put_over, room_over, areas_of, AreCyclic, is_within_one, reads_cell, has_one, reads_one_of, meets_one_of, has_room_in, StandsApart, AreTurns, as_set, is_ahead, IsLookedAt, ReachesNot, ReadsApart, IsAhead, IsAtOrBefore, has_key}
+use Rattle.wi_graph.proofs.Words.{◌≡◌, ◌==◌, ◌&&◌, ◌||◌, ◌⊎◌, inl, inr, ℕ, zero, suc, Bool, true, false, true≢false, not, not-true, cond, filter, nat_le, get_or, length, arith, List, [], ◌∷◌, Option, Some, None, IfSome, is_some, refl, ap, sym, ◌∙◌, subst, or_cases, or_left, or_right, or_parts, or-false, and_parts, and_from, false_from_ne_true, le-leb, nil_from_length, list_any, find, keys_of, lookup, nat_cmp, is_at, BTreeSet, btree_set_len, contains, SmallVec, one_truth, Area, is_within, within_between, Content, Sheet, content_of, content_reads, circular, is_one_of, areas_in, Turns, areas_then, Brings, IsEditCone, Rooms, Coming, brought_to, in_room, items_of, room_at, put_over, room_over, areas_of, AreCyclic, is_within_one, reads_cell, has_one, reads_one_of, meets_one_of, has_room_in, StandsApart, AreTurns, as_set, is_ahead, IsLookedAt, ReachesNot, ReadsApart, IsAhead, IsAtOrBefore, has_key, Reaches, Walks, reaches}
 use Rattle.wi_graph.proofs.Tests.{is_at-eq, turn_test, is_itself, clash}
 use Rattle.wi_graph.proofs.Walks.{found, same_cell}
 use Rattle.wi_graph.proofs.Graphs.{left_circular}
 use Rattle.wi_graph.proofs.Cones.{outside_circular}
-use Rattle.wi_graph.proofs.ReachTest.{not_in_cone}
+use Rattle.wi_graph.proofs.ReachTest.{not_in_cone, reaches_true, true_reaches}
 use Rattle.wi_graph.proofs.CircularAfter.{reads_circular}
 use Rattle.wi_graph.proofs.ChangeSteps.{then_sheet, then_contents, then_same}
 use Rattle.wi_graph.proofs.GraphSteps.{reads_areas}
@@ -290,3 +290,61 @@ reads_apart rooms (y ∷ []) cyclic x l e m n = record {
   not_met = n;
 }
 reads_apart rooms (y ∷ z ∷ zs) cyclic x l e m n = absurd (omega arith)
+
+-- which isn't circular
+pub first_open : (next : Coming) (cyclic : BTreeSet ℕ) (x : ℕ × Option (SmallVec Area)) → length next ≡ 1 → x ≡ get_or next 0 x → meets_one_of next cyclic ≡ false → contains nat_cmp cyclic x.0 ≡ false
+first_open [] cyclic x l e m = absurd (omega (arith, l))
+first_open (y ∷ ys) cyclic x l e m =
+    false_from_ne_true (contains nat_cmp cyclic x.0) (λ k.
+    clash (meets_one_of (y ∷ ys) cyclic) (or_left (contains nat_cmp cyclic y.0 || list_any (has_one cyclic) (areas_of (items_of y.1))) (meets_one_of ys cyclic)
+    (or_left (contains nat_cmp cyclic y.0) (list_any (has_one cyclic) (areas_of (items_of y.1))) (ap (λ (w : ℕ × Option (SmallVec Area)). contains nat_cmp cyclic w.0) (sym e) ∙ k))) m)
+
+-- ---- what a cell that isn't circular reads now, at any remove, isn't the cell
+
+walk_on : (n : ℕ) (s : Sheet) (c e d : ℕ) → Walks n s c e → content_reads (content_of s e) d ≡ true → Walks (suc n) s c d
+walk_on zero s c e d w r = (d, subst (λ (x : ℕ). content_reads (content_of s x) d ≡ true) (sym w) r, refl)
+walk_on (suc n) s c e d w r = (w.0, w.1, walk_on n s w.0 e d w.2 r)
+
+-- a cell that reaches one that reads it is circular
+on_cycle : (s : Sheet) (c e : ℕ) → Reaches s c e → content_reads (content_of s e) c ≡ true → circular s c ≡ true
+on_cycle s c e w r = left_circular s (λ x. reaches s x c) (λ x h. let v = reaches_true s x c h in goes x v.0 v.1) c (true_reaches s c c (0, refl))
+  where
+    by_step : (n x : ℕ) → Walks (suc n) s x c → (d : ℕ) × (content_reads (content_of s x) d ≡ true) × (reaches s d c ≡ true)
+    by_step n x v = (v.0, v.1, true_reaches s v.0 c (n, v.2))
+
+    goes : (x n : ℕ) → Walks n s x c → (d : ℕ) × (content_reads (content_of s x) d ≡ true) × (reaches s d c ≡ true)
+    goes x zero v = subst (λ (y : ℕ). (d : ℕ) × (content_reads (content_of s y) d ≡ true) × (reaches s d c ≡ true)) (sym v) (by_step w.0 c (walk_on w.0 s c e c w.1 r))
+    goes x (suc n) v = by_step n x v
+
+pub now_apart : (rooms : Rooms) (test : ℕ → Bool) (cell : ℕ) → AreCyclic (room_at rooms) test → test cell ≡ false → ReachesNot rooms cell (areas_of (room_at rooms cell))
+now_apart rooms test cell g unmet = (
+  below,
+  record {
+    first = λ d i. looked cell d (0, refl) (reads cell d i);
+    reads = λ e d m i. looked e d (reaches_true g.sheet cell e (parts e m).0) (reads e d i);
+    apart = λ e m. not-true (cell == e) (parts e m).1;
+    apart_ahead = λ d i. absurd (true≢false (sym i));
+  },
+)
+  where
+    below : ℕ → Bool
+    below d = reaches g.sheet cell d && not (cell == d)
+
+    parts : (e : ℕ) → below e ≡ true → (reaches g.sheet cell e ≡ true) × (not (cell == e) ≡ true)
+    parts e m = and_parts (reaches g.sheet cell e) (not (cell == e)) m
+
+    reads : (e d : ℕ) → is_within_one (areas_of (room_at rooms e)) d ≡ true → content_reads (content_of g.sheet e) d ≡ true
+    reads e d i = reads_areas (content_of g.sheet e) d ∙ ap (λ (o : Option (List Area)). is_within_one (areas_of o) d) (sym (g.are e)) ∙ i
+
+    -- what it reaches doesn't read it
+    other : (e d : ℕ) → Reaches g.sheet cell e → content_reads (content_of g.sheet e) d ≡ true → (cell == d) ≡ false
+    other e d w r =
+        false_from_ne_true (cell == d) (λ k.
+        clash (circular g.sheet cell) (on_cycle g.sheet cell e w (subst (λ (x : ℕ). content_reads (content_of g.sheet e) x ≡ true) (sym (same_cell d cell k)) r)) (sym (g.cyclic cell) ∙ unmet))
+
+    looked : (e d : ℕ) → Reaches g.sheet cell e → content_reads (content_of g.sheet e) d ≡ true → IsLookedAt rooms cell below [] d
+    looked e d w r =
+        let n = other e d w r in (
+          n,
+          inr (inl (and_from (reaches g.sheet cell d) (not (cell == d)) (true_reaches g.sheet cell d (suc w.0, walk_on w.0 g.sheet cell e d w.1 r)) (ap not n))),
+        )

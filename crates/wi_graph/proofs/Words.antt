@@ -35,7 +35,7 @@ pub use Rattle.std.specs.declared.ops.Bound.TheVariants.{Included}
 pub use Rattle.wi_graph.specs.Circular.{sublists}
 unfoldable pub use Rattle.wi_graph.specs.Circular.{circular}
 pub use Rattle.wi_graph.specs.Edges.{AreEdgesOf, Edges, Staging, areas_at, areas_in, brought, edges_after, sheet_after, staging, with_areas}
-pub use Rattle.wi_graph.specs.Inner.Below.{HasAreas, HasRest, IsBelow, IsLookedAt, IsSearchingBelow, ReachesNot, ReadsApart, has_visited, is_ahead}
+pub use Rattle.wi_graph.specs.Inner.Below.{AreFound, HasAreas, HasRest, IsBelow, IsFinding, IsLookedAt, IsSearchingBelow, ReachesNot, ReadsApart, has_visited, is_ahead, is_passed}
 pub use Rattle.wi_graph.specs.Inner.Bounds.{AreWithin}
 pub use Rattle.wi_graph.specs.Inner.Changes.{Brings, IsEditCone, ReadsStay, areas_then, ceased_from}
 pub use Rattle.wi_graph.specs.Inner.Rooms.{AreCyclic, AreInOrder, Coming, HasBoth, HasNoIdle, HasPairs, HasRooms, IsGraph, IsStaged, Rooms, areas_of, brought_to, coming_at, edges_in, edges_over, in_room, items_of, less_these, put_over, room_at, room_over, times, times_coming, times_in, with_room}

@@ -1,11 +1,11 @@
 //! Whether a cell that is to read some rectangles reads itself, at any remove: a search that goes a step at a time.
 
-ghost use Rattle.std.specs.Prelude.{◌≡◌, ◌++◌, ◌∷◌, List, [], true, IsTrue, IfOk, OnOk};
+ghost use Rattle.std.specs.Prelude.{◌≡◌, ◌++◌, ◌∷◌, ℕ, Bool, List, [], true, IsTrue, IfOk, OnOk};
 ghost use Rattle.std.specs.Ordering.{nat_cmp};
 ghost use Rattle.wi_values.specs.Address.{Area, is_within};
 ghost use Rattle.wi_tiles.specs.Entries.{IsOrdered};
 ghost use Rattle.wi_graph.specs.Inner.Rooms.{items_of, areas_of, room_at};
-ghost use Rattle.wi_graph.specs.Inner.Below.{HasAreas, HasRest, has_visited, IsSearchingBelow, IsBelow};
+ghost use Rattle.wi_graph.specs.Inner.Below.{HasAreas, HasRest, AreFound, IsBelow, IsFinding, IsSearchingBelow, has_visited, is_passed};
 
 use crate::rooms::{Rectangles, Rooms, rectangles_in};
 use std::alloc::{AllocError, Global};
@@ -14,6 +14,9 @@ use wi_values::{Address, Rect};
 
 /// Rectangles that are still to be looked at, each from a cell on.
 type Ahead = Vec<(Rect, Address)>;
+
+/// So many steps are taken at most among what a cell reads before an edit of it, whose cells are then passed over.
+const FEW_STEPS: usize = 16;
 
 /// How far a search among what a cell is to read has come.
 #[derive(Drop)]
@@ -25,19 +28,53 @@ pub(crate) struct Below {
     pub(crate) clear: bool,
 }
 
-/// A search that begins at the rectangles of a room.
+/// A search that begins at the rectangles of a room, for a cell that doesn't read itself now, at any remove. It passes
+/// over the cells that a few steps find among what the cell reads now.
 pub(crate) fn begin_below(
     alloc: Global,
+    rooms: &Rooms,
     cell: Address,
     room: &Option<Rectangles>,
 ) -> Result<Below, AllocError>
-    ensures visited { IfOk result (λ below. below.visited.entries ≡ []) }
-    ensures ahead { IfOk result (λ below. IsTrue below.clear
-        → HasAreas cell (areas_of (items_of room.now)) [] below.ahead.items) }
+    requires { IsOrdered nat_cmp rooms.now }
+    ensures { IfOk result (λ below. (known : ℕ → Bool)
+        → IsSearchingBelow rooms.now cell (areas_of (room_at rooms.now cell)) known []
+        → IsBelow rooms.now cell (areas_of (items_of room.now)) known below) }
+{
+    let visited = read_now(alloc, rooms, cell)?;
+    let mut ahead = Vec::new(alloc);
+    let clear = push_room(room, cell, &mut ahead)?;
+    Ok(Below {
+        visited,
+        ahead,
+        clear,
+    })
+}
+
+/// The cells that a few steps find among what a cell reads now, at any remove. None where they meet the cell.
+fn read_now(alloc: Global, rooms: &Rooms, cell: Address) -> Result<CellMap<()>, AllocError>
+    requires { IsOrdered nat_cmp rooms.now }
+    ensures { IfOk result (λ visited. (known : ℕ → Bool)
+        → IsSearchingBelow rooms.now cell (areas_of (room_at rooms.now cell)) known []
+        → AreFound rooms.now cell known (has_visited visited) []) }
+{
+    let mut below = begin_now(alloc, rooms, cell)?;
+    go_below(rooms, cell, FEW_STEPS, &mut below)?;
+    if below.clear {
+        return Ok(below.visited);
+    }
+    Ok(CellMap::new(alloc))
+}
+
+/// A search that begins at the rectangles that a cell reads now.
+fn begin_now(alloc: Global, rooms: &Rooms, cell: Address) -> Result<Below, AllocError>
+    ensures { IfOk result (λ below. (known : ℕ → Bool)
+        → IsSearchingBelow rooms.now cell (areas_of (room_at rooms.now cell)) known []
+        → IsFinding rooms.now cell known below) }
 {
     let visited = CellMap::new(alloc);
     let mut ahead = Vec::new(alloc);
-    let clear = push_room(room, cell, &mut ahead)?;
+    let clear = push_read(rooms, cell, cell, &mut ahead)?;
     Ok(Below {
         visited,
         ahead,
@@ -65,8 +102,13 @@ pub(crate) fn go_below(
     below: &mut Below,
 ) -> Result<(), AllocError>
     requires { IsOrdered nat_cmp rooms.now }
-    ensures { OnOk result ((areas : List Area) → IsBelow rooms.now cell areas below.old
-        → IsBelow rooms.now cell areas below.new) }
+    ensures below { OnOk result ((areas : List Area) (known : ℕ → Bool)
+        → IsBelow rooms.now cell areas known below.old
+        → IsBelow rooms.now cell areas known below.new) }
+    ensures finding { OnOk result ((known : ℕ → Bool)
+        → IsSearchingBelow rooms.now cell (areas_of (room_at rooms.now cell)) known []
+        → IsFinding rooms.now cell known below.old
+        → IsFinding rooms.now cell known below.new) }
 {
     for _ in 0..steps {
         step_below(rooms, cell, below)?;
@@ -77,8 +119,13 @@ pub(crate) fn go_below(
 /// Goes on by a step, if one is left.
 fn step_below(rooms: &Rooms, cell: Address, below: &mut Below) -> Result<(), AllocError>
     requires { IsOrdered nat_cmp rooms.now }
-    ensures { OnOk result ((areas : List Area) → IsBelow rooms.now cell areas below.old
-        → IsBelow rooms.now cell areas below.new) }
+    ensures below { OnOk result ((areas : List Area) (known : ℕ → Bool)
+        → IsBelow rooms.now cell areas known below.old
+        → IsBelow rooms.now cell areas known below.new) }
+    ensures finding { OnOk result ((known : ℕ → Bool)
+        → IsSearchingBelow rooms.now cell (areas_of (room_at rooms.now cell)) known []
+        → IsFinding rooms.now cell known below.old
+        → IsFinding rooms.now cell known below.new) }
 {
     if !below.clear {
         return Ok(());
@@ -98,9 +145,15 @@ fn look(
     below: &mut Below,
 ) -> Result<(), AllocError>
     requires { IsOrdered nat_cmp rooms.now }
-    ensures { OnOk result ((areas : List Area) → IsSearchingBelow rooms.now cell areas
-        (has_visited below.old.visited) (below.old.ahead.items ++ (area, from) ∷ [])
-        → IsBelow rooms.now cell areas below.new) }
+    ensures below { OnOk result ((areas : List Area) (known : ℕ → Bool)
+        → IsSearchingBelow rooms.now cell areas (is_passed below.old.visited known)
+        (below.old.ahead.items ++ (area, from) ∷ [])
+        → IsBelow rooms.now cell areas known below.new) }
+    ensures finding { OnOk result ((known : ℕ → Bool)
+        → IsSearchingBelow rooms.now cell (areas_of (room_at rooms.now cell)) known []
+        → AreFound rooms.now cell known (has_visited below.old.visited)
+        (below.old.ahead.items ++ (area, from) ∷ [])
+        → IsFinding rooms.now cell known below.new) }
 {
     let Some(read) = rooms.next_in(area, from) else {
         return Ok(());

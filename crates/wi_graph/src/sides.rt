@@ -5,7 +5,7 @@ ghost use Rattle.std.specs.Prelude.{◌≡◌, false, IsTrue, IfSome, IfNone, If
 ghost use Rattle.std.specs.Map.{keys_of};
 ghost use Rattle.std.specs.Ordering.{nat_cmp};
 ghost use Rattle.wi_tiles.specs.Entries.{IsOrdered};
-ghost use Rattle.wi_graph.specs.Inner.Rooms.{items_of, areas_of};
+ghost use Rattle.wi_graph.specs.Inner.Rooms.{IsGraph, items_of, areas_of, room_at};
 ghost use Rattle.wi_graph.specs.Inner.Search.{IsConeOf, IsConeSet};
 ghost use Rattle.wi_graph.specs.Inner.Turning.{meets_one_of};
 ghost use Rattle.wi_graph.specs.Inner.Below.{ReachesNot, ReadsApart};
@@ -24,12 +24,12 @@ use wi_values::Address;
 /// The cone of an edit; none where one cell gets something and isn't circular, and what it is to read, at any remove,
 /// isn't circular and isn't the cell. For such an edit two searches go side by side, among what depends on the cell and
 /// among what it is to read at any remove, and the work grows with the shorter one, beside that of listing the readers
-/// of a cell.
+/// of a cell. The second passes over cells that a few steps find among what the cell reads before the edit.
 pub(crate) fn cone_unless_apart(
     alloc: Global,
     edit: &GraphEdit<'_>,
 ) -> Result<Option<Vec<Address>>, AllocError>
-    requires { IsOrdered nat_cmp edit.now.rooms.now }
+    requires { IsGraph edit.now.rooms.now edit.now.readers.now edit.now.cyclic.now }
     ensures cone { IfOk result (λ o. IfSome o
         (λ cone. IsConeOf edit.now.readers.now (keys_of edit.now.changes.now) cone.items)) }
     ensures apart { IfOk result (λ o. IfNone o
@@ -45,7 +45,7 @@ fn listed_unless_apart(
     edit: &GraphEdit<'_>,
     cells: &[Address],
 ) -> Result<Option<Vec<Address>>, AllocError>
-    requires { IsOrdered nat_cmp edit.now.rooms.now }
+    requires { IsGraph edit.now.rooms.now edit.now.readers.now edit.now.cyclic.now }
     ensures cone { IfOk result (λ o. IfSome o
         (λ cone. IsConeOf edit.now.readers.now cells.now cone.items)) }
     ensures apart { IfOk result (λ o. IfNone o
@@ -84,7 +84,9 @@ fn both_sides(
     cells: &[Address],
     entry: &Brought,
 ) -> Result<Option<RisingSet>, AllocError>
-    requires { IsOrdered nat_cmp rooms.now }
+    requires order { IsOrdered nat_cmp rooms.now }
+    requires open_now { ReachesNot rooms.now entry.now.0
+        (areas_of (room_at rooms.now entry.now.0)) }
     ensures cone { IfOk result (λ o. IfSome o (λ found. IsConeSet readers.now cells.now found)) }
     ensures apart { IfOk result (λ o.
         IfNone o (ReachesNot rooms.now entry.now.0 (areas_of (items_of entry.now.1)))) }
@@ -92,7 +94,7 @@ fn both_sides(
     let mut found = RisingSet::new(alloc);
     let mut work = Vec::new(alloc);
     enqueue(cells, &mut found, &mut work)?;
-    let mut below = begin_below(alloc, entry.0, &entry.1)?;
+    let mut below = begin_below(alloc, rooms, entry.0, &entry.1)?;
     let mut steps = 1;
     'cells: while let Some(cell) = work.pop() {
         go_below(rooms, entry.0, steps, &mut below)?;

@@ -40,9 +40,22 @@ pub record IsSearchingBelow (rooms : Rooms) (cell : ℕ) (areas : List Area) (vi
   pub apart : (e : ℕ) → visited e ≡ true → (cell == e) ≡ false
   pub apart_ahead : (d : ℕ) → is_ahead ahead d ≡ true → (cell == d) ≡ false
 
+-- the cell was found, or is one of the known ones
+abbrev pub is_passed : {X : Type 0} → CellEntries X → (ℕ → Bool) → ℕ → Bool
+is_passed cells known d = has_visited cells d || known d
+
 -- while the cell wasn't met
-abbrev pub IsBelow : Rooms → ℕ → List Area → Below → Type 0
-IsBelow rooms cell areas below = below.clear ≡ true → IsSearchingBelow rooms cell areas (has_visited below.visited) below.ahead.items
+abbrev pub IsBelow : Rooms → ℕ → List Area → (ℕ → Bool) → Below → Type 0
+IsBelow rooms cell areas known below = below.clear ≡ true → IsSearchingBelow rooms cell areas (is_passed below.visited known) below.ahead.items
+
+-- what was found, and what is still to be looked at, is known, or has no formula
+pub record AreFound (rooms : Rooms) (cell : ℕ) (known visited : ℕ → Bool) (ahead : List (Area × ℕ)) : Type 0 where
+  pub found : (e : ℕ) → visited e ≡ true → IsLookedAt rooms cell known [] e
+  pub to_come : (d : ℕ) → is_ahead ahead d ≡ true → IsLookedAt rooms cell known [] d
+
+-- while the cell wasn't met
+abbrev pub IsFinding : Rooms → ℕ → (ℕ → Bool) → Below → Type 0
+IsFinding rooms cell known below = below.clear ≡ true → AreFound rooms cell known (has_visited below.visited) below.ahead.items
 
 -- all was looked at
 abbrev pub ReachesNot : Rooms → ℕ → List Area → Type 0

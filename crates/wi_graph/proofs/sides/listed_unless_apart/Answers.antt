@@ -1,7 +1,14 @@
-use Rattle.wi_graph.proofs.Words.{ℕ, Option, SmallVec, Area, subst, sym, rules, items_of, areas_of, ReachesNot}
+use Rattle.wi_graph.proofs.Words.{ℕ, Option, SmallVec, Area, nat_cmp, contains, subst, sym, rules, items_of, areas_of, room_at, ReachesNot}
 use Rattle.wi_graph.proofs.SearchSteps.{found_list}
-use Rattle.wi_graph.proofs.ClosingSteps.{reads_apart}
+use Rattle.wi_graph.proofs.ClosingSteps.{first_open, now_apart, reads_apart}
 use Rattle.wi_graph.proofs.sides.listed_unless_apart.Goals as goal
+
+pub both_sides-requires-clause-open_now : goal.both_sides-requires-clause-open_now
+both_sides-requires-clause-open_now c =
+    let entry = c.index-edit-0.result in
+    let unmet = first_open c.args.edit.now.next.now c.args.edit.now.cyclic.now entry (c.is_for_open_cell.ensures.one (search rules)) c.index-edit-0.is (c.is_for_open_cell.ensures.unmet (search rules)) in
+    subst (λ (x : ℕ × Option (SmallVec Area)). ReachesNot c.args.edit.now.rooms.now x.0 (areas_of (room_at c.args.edit.now.rooms.now x.0))) c.index-edit-0.is
+    (now_apart c.args.edit.now.rooms.now (contains nat_cmp c.args.edit.now.cyclic.now) entry.0 c.requires.circular unmet)
 
 pub returns-in_ok-cone-in-Some-clause-cone : goal.returns-in_ok-cone-in-Some-clause-cone
 returns-in_ok-cone-in-Some-clause-cone c =
