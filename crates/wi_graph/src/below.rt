@@ -51,8 +51,21 @@ pub(crate) fn begin_below(
     })
 }
 
-/// The cells that a few steps find among what a cell reads now, at any remove. None where they meet the cell.
+/// Cells that a few steps find among what a cell reads now, at any remove.
 fn read_now(alloc: Global, rooms: &Rooms, cell: Address) -> Result<CellMap<()>, AllocError>
+    requires { IsOrdered nat_cmp rooms.now }
+    ensures { IfOk result (λ visited. (known : ℕ → Bool)
+        → IsSearchingBelow rooms.now cell (areas_of (room_at rooms.now cell)) known []
+        → AreFound rooms.now cell known (has_visited visited) []) }
+{
+    match rooms.get(cell) {
+        Some(_) => few_read_now(alloc, rooms, cell),
+        None => Ok(CellMap::new(alloc)),
+    }
+}
+
+/// The cells that a few steps find among what a cell reads now, at any remove. None where they meet the cell.
+fn few_read_now(alloc: Global, rooms: &Rooms, cell: Address) -> Result<CellMap<()>, AllocError>
     requires { IsOrdered nat_cmp rooms.now }
     ensures { IfOk result (λ visited. (known : ℕ → Bool)
         → IsSearchingBelow rooms.now cell (areas_of (room_at rooms.now cell)) known []
