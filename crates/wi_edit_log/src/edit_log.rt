@@ -101,13 +101,13 @@ impl EditLog {
     /// The first of the cells, in row-major order, that an edit of another session names, not counting the first
     /// `since` edits of the log. Takes no memory.
     ///
-    /// Where each of the rectangles has 32 cells at most, or they have no more cells than there are edits, each cell is
-    /// one look for the edits of narrow rectangles, as far as `catch_up` has noted them. The others are gone through
-    /// from the last on, and each run of the session's own is one step, as is each row of noted edits of such
-    /// rectangles. For each other edit of another session every rectangle of the shorter of its list and `cells` is
-    /// looked for in the longer one. Where the longer rises, each rectangle below the one before, as an import names
-    /// them, that takes the logarithm of its length, and a step for each of its rectangles in the rows of the one that
-    /// is looked for, at most; where it doesn't, a step for each.
+    /// Where each of the rectangles has 32 cells at most, or they have no more cells than the last noted edits in a row
+    /// that named such rectangles alone, each cell is one look for the edits of such rectangles, as far as `catch_up`
+    /// has noted them. The others are gone through from the last on, and each run of the session's own is one step, as
+    /// is each row of noted edits of such rectangles. For each other edit of another session every rectangle of the
+    /// shorter of its list and `cells` is looked for in the longer one. Where the longer rises, each rectangle below
+    /// the one before, as an import names them, that takes the logarithm of its length, and a step for each of its
+    /// rectangles in the rows of the one that is looked for, at most; where it doesn't, a step for each.
     pub fn first_stale(&self, session: u32, since: u64, cells: &[Rect]) -> Option<Address>
         ensures { result ≡ first_stale self.now session since cells.now }
     {
@@ -116,7 +116,7 @@ impl EditLog {
         if end <= since {
             return None;
         }
-        if are_looked_up(cells, end - since) {
+        if are_looked_up(cells, self.noted.last_row().min(end - since)) {
             self.noted.first_named(&self.edits, session, since, cells)
         } else {
             first_of_others(&self.edits, session, since, cells)
@@ -125,9 +125,9 @@ impl EditLog {
 }
 
 /// Whether cells of rectangles are to be looked up one by one: where each rectangle is narrow, or the cells are no more
-/// than the edits that would be gone through else.
-fn are_looked_up(areas: &[Rect], edits: usize) -> bool {
-    are_narrow(areas) || are_no_more(areas, edits as u64)
+/// than the edits that this spares.
+fn are_looked_up(areas: &[Rect], spared: usize) -> bool {
+    are_narrow(areas) || are_no_more(areas, spared as u64)
 }
 
 /// Whether rectangles have so many cells together at most.

@@ -54,6 +54,14 @@ impl Noted {
         self.narrow.clear();
     }
 
+    /// How many of the last noted edits, one after another, named narrow rectangles alone.
+    pub(crate) fn last_row(&self) -> usize {
+        match self.narrow.last() {
+            Some(count) => *count as usize,
+            None => 0,
+        }
+    }
+
     /// Forgets all if more edits are noted than are left.
     pub(crate) fn forget_beyond(&mut self, left: usize)
         ensures { (es : List Edit) → AreNoted es self.old.narrow.items self.old.notes.entries
