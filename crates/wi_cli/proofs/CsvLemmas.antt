@@ -1,5 +1,5 @@
 -- What is told of data lines.
-use Rattle.wi_cli.proofs.Vocabulary.{◌≡◌, Bool, Err, List, None, Ok, Option, Result, Some, [], ap, arith, false, if◌then◌else◌, inl, inr, length, nat_lt, refl, subst, sym, true, ℕ, ◌&&◌, ◌+◌, ◌<◌, ◌==◌, ◌∙◌, ◌≤◌, nat_tests, concat, list_any, is_long, HoldsLines, IsTarget, command_of_csv, target_of, wants, read_any, read_by, RefusedAs, Told, max_line, without_lf, DataLines, Held, BadCommand, BadLine, CutShort, Holds, lies_outside, Command, Csv, Unreadable, Cell, is_outside, IsImportStep, IsStep, State, Refusal, AddressFault, form, address, is_ok, All, All-weaker, each_fails, outside_first, long_lines, no_long_line, ReadCsv}
+use Rattle.wi_cli.proofs.Vocabulary.{◌≡◌, Bool, Err, List, None, Ok, Option, Result, Some, [], ap, arith, false, if◌then◌else◌, inl, inr, length, nat_lt, refl, subst, sym, true, ℕ, ◌&&◌, ◌+◌, ◌<◌, ◌==◌, ◌∙◌, ◌≤◌, nat_tests, concat, list_any, is_long, HoldsLines, IsTarget, command_of_csv, target_of, wants, read_any, read_by, RefusedAs, Told, max_line, without_lf, DataLines, Held, BadCommand, BadLine, CutShort, Holds, Command, Csv, Unreadable, Cell, is_outside, IsImportStep, IsStep, State, Refusal, AddressFault, address, is_ok, All, All-weaker, each_fails, outside_first, csv_outside, cond_both, long_lines, no_long_line, ReadCsv}
 use Rattle.std.specs.List.{All as Each}
 use Rattle.wi_scenarios.specs.declared.refusal.Refusal.TheVariants as refusal
 use Rattle.wi_scenarios.specs.Answer as answer
@@ -14,10 +14,6 @@ all_short lines e = All-weaker (λ line. is_long line ≡ false) (λ line. lengt
   where
     within : (n : ℕ) → nat_lt max_line n ≡ false → n ≤ max_line
     within n h = grind (arith, nat_tests)
-
-csv_outside : (force : Bool) (c : Cell) (n : ℕ) (lines : List (List ℕ)) → is_outside c ≡ true → list_any lies_outside (form (Csv force (Some c) n lines)) ≡ true
-csv_outside true c n lines o = rw o refl
-csv_outside false c n lines o = rw o refl
 
 is_less : (k m n : ℕ) → (m == 0) ≡ false → k + m ≡ n → k < n
 is_less k m n e h = grind (arith, nat_tests)
@@ -40,7 +36,7 @@ module _ (force : Bool) (n : ℕ) (lines : List (List ℕ)) (bytes : List ℕ) w
     is_cut c m s = (CutShort, inr (line s (Some c), inr (λ h. h, inl (is_less (length lines) missing n m count, refl))), refl)
 
     is_out : (c : Cell) → (missing == 0) ≡ true → is_outside c ≡ true → IsTarget (Csv force (Some c) n lines) force bytes (Err refusal.OutOfSheet)
-    is_out c m o s = outside_first s (Csv force (Some c) n lines) (line s (Some c)) (λ h. h) (λ h. not_less (length lines) missing n m count h) (csv_outside force c n lines o)
+    is_out c m o s = outside_first s (Csv force (Some c) n lines) (line s (Some c)) (λ h. h) (λ h. not_less (length lines) missing n m count h) (csv_outside force c n lines ∙ o)
 
     -- the cell is that of its address, and the data lines are those of their text
     is_put : (c : Cell) → (missing == 0) ≡ true → is_outside c ≡ false → bytes ≡ concat lines → IsTarget (Csv force (Some c) n lines) force bytes (Ok (address c))
@@ -52,11 +48,7 @@ module _ (force : Bool) (n : ℕ) (lines : List (List ℕ)) (bytes : List ℕ) w
 
     or_cut : (c : Cell) (r : Result ℕ Refusal) → ((missing == 0) ≡ true → IsTarget (Csv force (Some c) n lines) force bytes r)
         → IsTarget (Csv force (Some c) n lines) force bytes (if missing == 0 then r else Err refusal.CutShort)
-    or_cut c r is = by (missing == 0) refl
-      where
-        by : (m : Bool) → (missing == 0) ≡ m → IsTarget (Csv force (Some c) n lines) force bytes (if m then r else Err refusal.CutShort)
-        by true m = is m
-        by false m = is_cut c m
+    or_cut c r is = cond_both (missing == 0) r (Err refusal.CutShort) (IsTarget (Csv force (Some c) n lines) force bytes) is (is_cut c)
 
     all : (o : Option Cell) → (is_ok (read_any o) ≡ true → bytes ≡ concat lines) → IsTarget (Csv force o n lines) force bytes (target_of (read_any o) missing)
     all None joined = λ s. (BadCommand, inr (line s None, inl (tt, refl)), refl)

@@ -1,5 +1,5 @@
 -- Data lines, as they are taken and held.
-use Rattle.wi_cli.proofs.Vocabulary.{◌≡◌, ℕ, ◌+◌, ◌-◌, ◌<◌, ◌≤◌, Bool, true, false, ◌||◌, ◌&&◌, cond, ltb, List, [], ◌∷◌, ◌++◌, length, take, refl, sym, ap, ◌∙◌, subst, ⊎_elim, None, Some, append_assoc, append-nil, length-append, arith, concat, list_any, is_utf8, or-true, take_all, length-take, list_any-append, false≢true, lt-ltb, le-ltb, ltb-true, cases_lt, RunFault, Held, Lacking, DataLines, raw_lines, without_cr, is_whole, CsvLine, csv_line, is_long, raw, line_front, Place, IsOver, TookNext, BrokeNext, IsCsv, HoldsLines, AddedTo, TookData, BrokeData, All, ReadCsv}
+use Rattle.wi_cli.proofs.Vocabulary.{◌≡◌, ℕ, ◌+◌, ◌-◌, ◌<◌, ◌≤◌, Bool, true, false, ◌||◌, ◌&&◌, cond, ltb, List, [], ◌∷◌, ◌++◌, length, take, refl, sym, ap, ◌∙◌, subst, ⊎_elim, None, Some, append_assoc, append-nil, length-append, arith, concat, list_any, is_utf8, or-true, take_all, length-take, list_any-append, false≢true, true_from_ne_false, nil_from_length, ltb-false, lt-ltb, le-ltb, cases_lt, RunFault, Held, Lacking, DataLines, raw_lines, without_cr, is_whole, CsvLine, csv_line, is_long, raw, line_front, Place, IsOver, TookNext, BrokeNext, IsCsv, HoldsLines, AddedTo, TookData, BrokeData, All, ReadCsv}
 use Rattle.wi_cli.specs.declared.data_lines.Held.TheVariants.{TooLong}
 use Rattle.wi_cli.specs.Inner.Data.{Holds}
 use Rattle.wi_cli.proofs.LineLemmas.{raw_lines-last, raw_lines-raw, without_lf-raw, concat_push}
@@ -81,8 +81,7 @@ held_on wanted Lacking bytes before more f h = h
 held_on wanted TooLong bytes before more f h = list_any-append is_long before more ∙ ap (λ v. v || list_any is_long more) h
 
 no_bytes : (line : List ℕ) → ltb 0 (length line) ≡ false → line ≡ []
-no_bytes [] h = refl
-no_bytes (b ∷ bs) h = let l : 0 < length (b ∷ bs) = omega arith in absurd (false≢true (sym h ∙ lt-ltb 0 (length (b ∷ bs)) l))
+no_bytes line h = nil_from_length line (omega (arith, ltb-false 0 (length line) h))
 
 pub added_none : (d : DataLines) (whole : Bool) (line content : List ℕ) → line ≡ line_front content → (whole || ltb 0 (length line)) ≡ false → AddedTo d d (raw_lines (raw whole content))
 added_none d true line content e h = absurd (false≢true (sym h))
@@ -140,24 +139,14 @@ data_more asked d d' before whole p q r line most h k more =
 pub data_stopped : (asked : ℕ) (d : DataLines) (before : Bool) (fault : RunFault) (p q r : Place) → q.lines ≤ 1000000 → TookData asked d before true p q → 0 < d.missing → BrokeNext fault q r
     → BrokeData asked before fault p r
 data_stopped asked d before fault p q r most h some k =
-    let broke = one_broke fault p q r h.took k most in record {
-      came = go before (λ f. (h.none_taken f).0);
+    let broke = one_broke fault p q r h.took k most in
+    record {
+      came = true_from_ne_false before (λ f. false≢true (sym (h.none_taken f).0));
       broke = broke.0;
       some_missing = omega (arith, h.missing, ap length (no_last h.took.lines (raw_lines h.took.last) (ap raw_lines (h.took.none_last refl))), ap length broke.1);
-    } where
-      go : (v : Bool) → (v ≡ false → true ≡ false) → v ≡ true
-      go true f = refl
-      go false f = absurd (false≢true (sym (f refl)))
+    }
 
 -- ---- the loop
-
-pub goes_on_whole : (whole : Bool) (n : ℕ) → (whole && ltb 0 n) ≡ true → whole ≡ true
-goes_on_whole true n h = refl
-goes_on_whole false n h = h
-
-pub goes_on_some : (whole : Bool) (n : ℕ) → (whole && ltb 0 n) ≡ true → 0 < n
-goes_on_some true n h = ltb-true 0 n h
-goes_on_some false n h = absurd (false≢true h)
 
 pub still_few : {asked : ℕ} {d : DataLines} {before whole : Bool} {p q : Place} → TookData asked d before whole p q → q.lines ≤ 1000000
 still_few h = let few = h.took.few in omega arith

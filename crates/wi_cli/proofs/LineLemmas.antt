@@ -1,5 +1,5 @@
 -- The lines of bytes that are taken a line at a time, and the blocks of lines.
-use Rattle.wi_cli.proofs.Vocabulary.{◌≡◌, ℕ, ◌+◌, ◌<◌, ◌≤◌, Bool, true, false, ◌||◌, cond, eqb, List, [], ◌∷◌, ◌++◌, length, refl, sym, ap, ◌∙◌, append_assoc, append-nil, arith, concat, false≢true, concat-append, raw_lines, onto_first, without_lf, is_whole, raw, AreWhole, ◌-◌, nat_eq, subst, ne_eqb, filter-append, Block, begun, with_data, is_complete, blocks_from, blocks, AreBlocks, AreBlocksOf, filter, ap₂, asked}
+use Rattle.wi_cli.proofs.Vocabulary.{◌≡◌, ℕ, ◌+◌, ◌<◌, ◌≤◌, Bool, true, false, ◌||◌, cond, eqb, List, [], ◌∷◌, ◌++◌, length, refl, sym, ap, ◌∙◌, append_assoc, append-nil, or-true, arith, concat, false≢true, concat-append, raw_lines, onto_first, without_lf, is_whole, raw, AreWhole, ◌-◌, nat_eq, subst, ne_eqb, filter-append, Block, begun, with_data, is_complete, blocks_from, blocks, AreBlocks, AreBlocksOf, filter, ap₂, asked}
 
 -- a byte that is no LF, by the test of a line that begins with it
 not_lf : (b : ℕ) (bs : List ℕ) → is_whole (b ∷ bs) ≡ false → (eqb b 10 ≡ false) × (is_whole bs ≡ false)
@@ -34,10 +34,7 @@ is_whole-append [] ys = refl
 is_whole-append (x ∷ xs) ys = elim (eqb x 10) as (λ b. cond b true (is_whole (xs ++ ys)) ≡ (cond b true (is_whole xs) || is_whole ys)) [ true ↦ refl | false ↦ is_whole-append xs ys ]
 
 whole_raw : (content : List ℕ) → is_whole (raw true content) ≡ true
-whole_raw content = is_whole-append content (10 ∷ []) ∙ go (is_whole content) where
-  go : (b : Bool) → (b || is_whole (10 ∷ [])) ≡ true
-  go true = refl
-  go false = refl
+whole_raw content = is_whole-append content (10 ∷ []) ∙ or-true (is_whole content)
 
 -- ---- lines that end with their LF
 

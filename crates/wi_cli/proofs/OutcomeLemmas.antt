@@ -2,7 +2,7 @@
 use Rattle.wi_cli.proofs.Vocabulary.{◌≡◌, ℕ, ◌+◌, ◌-◌, ◌<◌, ◌≤◌, Bool, true, false, List, [], ◌∷◌, ◌++◌, length, take, drop, refl, sym, ap, ◌∙◌, subst, Option, None, Some, Result, Ok, Err, IfErr, OnOk, append_assoc, append-nil, length-append, inl, inr, arith, concat, option_to_list, Appends, Keeps, Consumes, IsAtEnd, prepend_known, Appends-trans, Appends-nil, Appends-kept, take_at, take-append-drop, filter_map-append, filter-append, take-append-add, RunFault, Memory, Read, Write, ScriptLimit, State, Place, Stage, Takes, Advances, AppendsFront, raw_lines, Block, blocks, is_complete, block_command, AreWhole, AreBlocks, TookBlock, BrokeBlock, Served, Stopped, IsTurn, IsRun, Command, Writes, is_whole, Outcome, filter, filter_map, false≢true, TookLines, commands_of, AreCommands}
 use Rattle.wi_cli.proofs.Ties.LinesRead.{are_commands}
 use Rattle.wi_cli.proofs.TakenLemmas.{BrokeLines-behind, TookLines-trans, no_last, none_taken}
-use Rattle.wi_cli.proofs.TurnLemmas.{Writes-append, may_fail, last_written}
+use Rattle.wi_cli.proofs.TurnLemmas.{Writes-append, may_fail, last_written, nil_parts}
 use Rattle.wi_cli.proofs.LineLemmas.{last_whole, some_line, AreBlocks-none, AreBlocks-append}
 
 -- where a run begins
@@ -40,18 +40,14 @@ consumed None c q bs h = tt
 consumed (Some p) c None bs h = absurd h
 consumed (Some p) c (Some r) bs h = h ∙ sym (append_assoc bs c r)
 
-no_more : (xs ys : List ℕ) → xs ++ ys ≡ [] → ys ≡ []
-no_more [] ys e = e
-no_more (x ∷ xs) ys e = cc
-
 consumed_all : (left : Option (List ℕ)) (c : List ℕ) (q : Option (List ℕ)) (bs : List ℕ) → Takes [] left c q bs → IsAtEnd (prepend_known c q) → Consumes left q bs
 consumed_all None c q bs h e = tt
 consumed_all (Some p) c None bs h e = absurd h
-consumed_all (Some p) c (Some r) bs h e = h ∙ ap (λ z. bs ++ z) (e ∙ sym (no_more c r e))
+consumed_all (Some p) c (Some r) bs h e = h ∙ ap (λ z. bs ++ z) (e ∙ sym (nil_parts c r e).1)
 
 at_end_of : (c : List ℕ) (q : Option (List ℕ)) → IsAtEnd (prepend_known c q) → IsAtEnd q
 at_end_of c None e = tt
-at_end_of c (Some r) e = no_more c r e
+at_end_of c (Some r) e = (nil_parts c r e).1
 
 -- ---- lines that are whole, and lines within the limit
 

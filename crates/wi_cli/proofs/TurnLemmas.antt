@@ -29,16 +29,13 @@ none_written : (s : State) (cs : List Command) → Writes true s cs [] s
 none_written s [] = (refl, refl)
 none_written s (c ∷ cs) = inr (refl, inr (refl, refl))
 
-no_front : (front rest : List ℕ) → front ++ rest ≡ [] → front ≡ []
-no_front [] rest e = refl
-no_front (b ∷ bs) rest e = absurd (no_byte b (bs ++ rest) e)
-  where
-    no_byte : (b : ℕ) (bs : List ℕ) → b ∷ bs ≡ [] → ⊥
-    no_byte b bs e = cc
+pub nil_parts : (xs ys : List ℕ) → xs ++ ys ≡ [] → (xs ≡ []) × (ys ≡ [])
+nil_parts [] ys e = (refl, e)
+nil_parts (x ∷ xs) ys e = (cc, cc)
 
 pub last_written : (s t : State) (last : Option Command) (others : List Command) (front rest : List ℕ) → Writes false s (option_to_list last) (front ++ rest) t → Writes true s (option_to_list last ++ others) front t
 last_written s t None others front rest h =
-    subst₂ (λ (x : List ℕ) (u : State). Writes true s others x u) (sym (no_front front rest h.0)) (sym h.1) (none_written s others)
+    subst₂ (λ (x : List ℕ) (u : State). Writes true s others x u) (sym (nil_parts front rest h.0).0) (sym h.1) (none_written s others)
 last_written s t (Some c) others front rest (inl h) =
     let end : Writes false h.0 [] h.2 t = h.5 in
     let same : front ++ rest ≡ h.1 = h.4 ∙ ap (λ (x : List ℕ). h.1 ++ x) end.0 ∙ append-nil h.1 in

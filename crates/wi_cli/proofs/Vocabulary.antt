@@ -4,7 +4,7 @@ pub use Rattle.std.proofs.Common.{Bool, Err, IfErr, IfOk, List, None, Ok, OnOk, 
 pub use Rattle.std.proofs.KnownBytes.{Appends-kept, Appends-nil, Appends-trans, Consumes-nil, Consumes-trans}
 pub use Rattle.std.proofs.Math.Bool.{or-false, or-true}
 pub use Rattle.std.proofs.Math.Seq.{drop-append_seam, take-add, take-append-add, take-append_seam}
-pub use Rattle.std.proofs.lemmas.Bool.{and_from, and_parts, both_ways, cases_lt, eqb-true, false_from_ne_true, false≢true, le-leb, le-ltb, leb-true, lt-ltb, ltb-false, ltb-true, ne_eqb, not-false, or_cases, or_parts}
+pub use Rattle.std.proofs.lemmas.Bool.{and_from, and_parts, both_ways, cases_lt, cond_both, eqb-true, false_from_ne_true, false≢true, le-leb, le-ltb, leb-true, lt-ltb, ltb-false, ltb-true, ne_eqb, not-false, or_cases, or_parts, true_from_ne_false}
 pub use Rattle.std.proofs.lemmas.Bool.Decides.{nat_tests}
 pub use Rattle.std.proofs.lemmas.List.{at_drop_all, at_drop_more, drop_all, drop_more, get_or-take, length-drop, length-take, nil_from_length, take-append-drop, take-append-le, take_all, take_at, take_min, take_rest}
 pub use Rattle.std.proofs.lemmas.List.Elements.{All-weaker, filter-append, filter_map-append}
@@ -37,7 +37,7 @@ unfoldable pub use Rattle.wi_cli.specs.Inner.Operands.{spelled_cell, spelled_rec
 unfoldable pub use Rattle.wi_cli.specs.Inner.Reading.{line_front}
 pub use Rattle.wi_cli.specs.Inner.Told.{reply, refused_cell, IsServed, KeepsMemory, RefusedAs, Told, reply_bytes}
 unfoldable pub use Rattle.wi_cli.specs.Inner.Told.{refused}
-pub use Rattle.wi_cli.specs.Inner.Words.{AddressFault, All, DataLines, Done, Held, Lacking, Line, Passed, Refusal, Refused, Reply, RunFault, Shape, has_session, is_ok, result_err}
+pub use Rattle.wi_cli.specs.Words.{AddressFault, All, DataLines, Done, Held, Lacking, Line, Passed, Refusal, Refused, Reply, RunFault, Shape, has_session, is_name, is_ok, read_name, result_err}
 pub use Rattle.wi_cli.specs.Laws.{SameAddr, SameRect, Splits, a_line, blocks_that_count, commands_of, cut_short, line_block, none}
 pub use Rattle.wi_cli.specs.Lines.{Bytes, after_word, first_word, is_space, is_whole, max_line, onto_first, raw_lines, skip_spaces, without_cr, without_lf}
 pub use Rattle.wi_cli.specs.Outcome.{IsRun, Outcome, Writes}
@@ -52,12 +52,12 @@ pub use Rattle.wi_reports.specs.Inner.Shape.{has_row, entries}
 pub use Rattle.wi_scenario_list.specs.Bases.{lacks}
 pub use Rattle.wi_scenarios.proofs.CauseTests.{first_holds, one_first, is_misshaped}
 pub use Rattle.wi_scenarios.proofs.ClearSteps.{clear_outside, clear_step, cleared, clear_of}
-pub use Rattle.wi_scenarios.proofs.CsvSteps.{long_lines, no_long_line}
+pub use Rattle.wi_scenarios.proofs.CsvSteps.{csv_outside, long_lines, no_long_line}
 pub use Rattle.wi_scenarios.proofs.EditLemmas.{outside_first}
 pub use Rattle.wi_scenarios.proofs.FillSteps.{fill_outside, fill_out, fill_edit, leaves, filled_by, fill_step}
 pub use Rattle.wi_scenarios.proofs.LookSteps.{show_step, export_step, compare_step, area_answer, shown_in, show_of, exported_in, export_of_area, compared_in, compare_of, addresses, table_step, table_by}
-pub use Rattle.wi_scenarios.proofs.OperandLemmas.{placed_again, spanned_again}
-pub use Rattle.wi_scenarios.proofs.SetSteps.{set_none}
+pub use Rattle.wi_scenarios.proofs.OperandLemmas.{once, placed_again, spanned_again}
+pub use Rattle.wi_scenarios.proofs.SetSteps.{set_none, set_outside}
 pub use Rattle.wi_scenarios.proofs.StepLemmas.{no_other}
 pub use Rattle.wi_scenarios.specs.Answer.{Answer, MayGrow, MayRefuse, may_grow, code_of}
 pub use Rattle.wi_scenarios.specs.Commands.Causes.{BadCommand, BadField, BadLine, Cause, CutShort, EditLimit, Full, Holds, IsFirst, LeavesSheet, NumberRange, OutOfSheet, Outside, Stale, Syntax, TooDeep, cells_asked, lies_outside, order, stale_cell}
@@ -79,4 +79,3 @@ pub use Rattle.wi_values.specs.Address.{Area, column_of, columns, is_column, is_
 unfoldable pub use Rattle.wi_values.specs.Address.{address_text, letters_within}
 pub use Rattle.wi_values.specs.AddressReading.{cell_at, corners}
 unfoldable pub use Rattle.wi_values.specs.AddressReading.{address_at, read_address, read_rect}
-pub use Rattle.wi_values.specs.Name.{is_name, read_name}

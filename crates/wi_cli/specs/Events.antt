@@ -1,12 +1,8 @@
 -- A script's commands one after another, as events.
-use Rattle.std.specs.Prelude.{◌≡◌, List, map}
-use Rattle.std.specs.List.{flat_map}
-use Rattle.wi_scenarios.specs.State.{State}
+use Rattle.std.specs.Prelude.{◌≡◌}
+use Rattle.wi_cli.specs.Words.{List, map, flat_map, State, Command, IsStep, Bytes}
 use Rattle.wi_scenarios.specs.Events.{Event, MayFollow, state_after}
-use Rattle.wi_scenarios.specs.Commands.Command.{Command}
-use Rattle.wi_scenarios.specs.Commands.Step.{IsStep}
 use Rattle.wi_cli.specs.Inner.Told.{reply}
-use Rattle.wi_cli.specs.Lines.{Bytes}
 
 -- Events of these commands may follow one another from s; their replies are these bytes, and they leave this state.
 pub record AreEvents (s : State) (cs : List Command) (out : Bytes) (t : State) : Type 0 where

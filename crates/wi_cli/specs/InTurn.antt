@@ -1,8 +1,6 @@
 -- Two scripts that are run in turn on one workbook.
-use Rattle.std.specs.Prelude.{◌≡◌, Bool, Option, Result, Err, MatchResult}
-use Rattle.wi_scenarios.specs.State.{State}
-use Rattle.wi_cli.specs.declared.fault.RunFault.{RunFault}
-use Rattle.wi_cli.specs.Lines.{Bytes}
+use Rattle.std.specs.Prelude.{◌≡◌}
+use Rattle.wi_cli.specs.Words.{Bool, Option, Result, Err, MatchResult, State, RunFault, Bytes}
 use Rattle.wi_cli.specs.Outcome.{IsRun}
 
 -- The first script is run, and the second from the state and the sink that the first left. After a fault in the first

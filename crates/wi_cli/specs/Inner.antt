@@ -1,5 +1,4 @@
 -- Words of the code's own contracts, and readers that laws tie to the definitions. Nothing here needs belief.
-pub mod Words
 pub mod Forms
 pub mod Script
 pub mod Data

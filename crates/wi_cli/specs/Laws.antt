@@ -1,7 +1,6 @@
 -- As what words and lines are read: cells and rectangles of any size, and commands.
 use Rattle.std.specs.Prelude.{◌++◌, ◌-◌, ◌<◌, ◌∷◌, ◌≡◌}
-use Rattle.wi_cli.specs.Inner.Words.{Bool, Cell, Command, CornerCells, List, Some, [], false, filter, filter_map, length, read_address, read_rect, true}
-use Rattle.wi_cli.specs.Lines.{Bytes}
+use Rattle.wi_cli.specs.Words.{Bool, Cell, Command, CornerCells, List, Some, [], false, filter, filter_map, length, read_address, read_rect, true, Bytes}
 use Rattle.wi_cli.specs.Inner.Operands.{spelled_cell, spelled_rect, read_any, read_any_area}
 use Rattle.wi_cli.specs.Inner.Script.{Block, asked, blocks, is_complete, block_command}
 use Rattle.wi_cli.specs.Spelled.{IsAddr, IsRect}

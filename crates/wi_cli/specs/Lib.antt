@@ -1,4 +1,5 @@
 pub mod Lines
+pub mod Words
 pub mod Spelled
 pub mod Reply
 pub mod Script

@@ -1,11 +1,7 @@
 -- What a run of a script has done when it returns.
-use Rattle.std.specs.Prelude.{◌≡◌, ◌<◌, ◌≤◌, ◌⊎◌, Bool, true, false, List, [], ◌∷◌, ◌++◌, length, take, filter, Option, Result, Ok, Err, OnOk}
-use Rattle.std.specs.Io.KnownBytes.{Appends, Consumes, IsAtEnd}
-use Rattle.wi_scenarios.specs.State.{State}
-use Rattle.wi_scenarios.specs.Commands.Command.{Command}
-use Rattle.wi_cli.specs.declared.fault.RunFault.{RunFault}
-use Rattle.wi_cli.specs.declared.fault.RunFault.TheVariants.{Memory, Read, Write, ScriptLimit}
-use Rattle.wi_cli.specs.Lines.{raw_lines, is_whole, max_lines, Bytes}
+use Rattle.std.specs.Prelude.{◌≡◌, ◌<◌, ◌≤◌, ◌⊎◌, ◌∷◌, ◌++◌}
+use Rattle.wi_cli.specs.Words.{Bool, true, false, List, [], length, take, filter, Option, Result, Ok, Err, OnOk, Appends, Consumes, IsAtEnd, State, Command, RunFault, Read, Write, ScriptLimit, raw_lines, is_whole, max_lines, Bytes}
+use Rattle.wi_cli.specs.declared.fault.RunFault.TheVariants.{Memory}
 use Rattle.wi_cli.specs.Script.{AreCommands}
 use Rattle.wi_cli.specs.Reply.{Replies}
 

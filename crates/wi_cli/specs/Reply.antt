@@ -1,14 +1,9 @@
 -- What a command is answered.
-use Rattle.std.specs.Prelude.{◌≡◌, ℕ, false, List, [], ◌∷◌, ◌++◌, Option, Some, codes}
-use Rattle.std.specs.List.{Contains}
-use Rattle.wi_values.specs.Address.{address_text}
-use Rattle.wi_sessions.specs.Sessions.{has_session}
-use Rattle.wi_scenarios.specs.State.{State}
-use Rattle.wi_scenarios.specs.Commands.Operands.{is_outside}
-use Rattle.wi_scenarios.specs.Commands.Command.{Command, Csv, Drop, As}
+use Rattle.std.specs.Prelude.{◌≡◌, ◌∷◌, ◌++◌}
+use Rattle.wi_cli.specs.Words.{ℕ, false, List, [], Option, Some, codes, Contains, address_text, has_session, State, is_outside, Command, Csv, Bytes}
+use Rattle.wi_scenarios.specs.Commands.Command.{Drop, As}
 use Rattle.wi_scenarios.specs.Commands.Causes.{Cause, OutOfSheet, NumberRange, TooDeep, Syntax, LeavesSheet, Stale, Full, EditLimit, order, Holds, IsFirst, stale_cell}
 use Rattle.wi_scenarios.specs.Commands.Does.{Does}
-use Rattle.wi_cli.specs.Lines.{Bytes}
 
 -- behind the code of a stale edit a space and the cell
 abbrev pub cell_named : Cause → Option ℕ → Bytes

@@ -1,11 +1,6 @@
 -- The commands of a script.
-use Rattle.std.specs.Prelude.{◌≡◌, ◌<◌, ◌≤◌, ◌⊎◌, ℕ, Bool, true, false, ◌==◌, List, [], ◌∷◌, ◌++◌, length, Option, Some, None, if◌then◌else◌}
-use Rattle.std.specs.List.{list_all}
-use Rattle.std.specs.Option.{option_to_list}
-use Rattle.std.specs.Str.{byte, IsUtf8}
-use Rattle.wi_scenarios.specs.Commands.Operands.{Cell}
-use Rattle.wi_scenarios.specs.Commands.Command.{Command, Csv, Unknown, Unreadable, form, data_of}
-use Rattle.wi_cli.specs.Lines.{without_lf, without_cr, max_line, is_space, Bytes}
+use Rattle.std.specs.Prelude.{◌≡◌, ◌<◌, ◌≤◌, ◌⊎◌, ◌==◌, ◌∷◌, ◌++◌, if◌then◌else◌}
+use Rattle.wi_cli.specs.Words.{ℕ, Bool, true, false, List, [], length, Option, Some, None, list_all, option_to_list, byte, IsUtf8, Cell, Command, Csv, Unknown, Unreadable, form, data_of, without_lf, without_cr, max_line, is_space, Bytes}
 use Rattle.wi_cli.specs.Spelled.{IsWritten}
 
 abbrev pub is_passed_over : Bytes → Bool

@@ -1,13 +1,6 @@
 -- The words that spell the operands of commands, whether the sheet has the cells or not.
-use Rattle.std.specs.Prelude.{◌≡◌, ◌≢◌, ◌+◌, ◌<◌, ◌≤◌, List, [], ◌∷◌, ◌++◌, length, Some, None, IsTrue, codes}
-use Rattle.std.specs.List.{list_all}
-use Rattle.std.specs.Char.{is_ascii_alphabetic}
-use Rattle.std.specs.Str.{all_ascii_digits}
-use Rattle.std.specs.Str.Parse.{digits_value}
-use Rattle.wi_values.specs.Address.{letters_value, is_row_number}
-use Rattle.wi_values.specs.Name.{is_name}
-use Rattle.wi_scenarios.specs.Commands.Operands.{Cell, CornerCells, Operand, WORD, CONTENT, NAME, SESSION, ADDR, RECT, LINES, SIDE, ANY}
-use Rattle.wi_cli.specs.Lines.{Bytes, is_space, first_word, after_word}
+use Rattle.std.specs.Prelude.{◌≡◌, ◌≢◌, ◌+◌, ◌<◌, ◌≤◌, ◌∷◌, ◌++◌}
+use Rattle.wi_cli.specs.Words.{List, [], length, Some, None, IsTrue, codes, list_all, is_ascii_alphabetic, all_ascii_digits, digits_value, letters_value, is_row_number, is_name, Cell, CornerCells, Operand, WORD, CONTENT, NAME, SESSION, ADDR, RECT, LINES, SIDE, ANY, Bytes, is_space, first_word, after_word}
 
 -- ADDR is ASCII letters of either case and then digits, the first not `0`.
 pub data IsAddr : Bytes → Cell → Type 0 where

@@ -1,7 +1,6 @@
 -- The status with which the program ends.
-use Rattle.std.specs.Prelude.{ℕ, Result, Ok, Err}
-use Rattle.wi_cli.specs.declared.fault.RunFault.{RunFault}
-use Rattle.wi_cli.specs.declared.fault.RunFault.TheVariants.{Memory, Read, Write, ScriptLimit}
+use Rattle.wi_cli.specs.Words.{ℕ, Result, Ok, Err, RunFault, Read, Write, ScriptLimit}
+use Rattle.wi_cli.specs.declared.fault.RunFault.TheVariants.{Memory}
 
 -- 3 where a device failed, 4 at the limit of lines, 5 without memory
 abbrev pub status_of : RunFault → ℕ

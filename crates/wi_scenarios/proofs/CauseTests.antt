@@ -24,33 +24,6 @@ pub none_there : {X : Type 0} (o : Option X) → (not (is_some o) ≡ true) ↔ 
 none_there None = (λ e. refl, λ h. refl)
 none_there (Some x) = (λ e. absurd (both_ways false refl e), λ h. absurd (none-some x (sym h)))
 
--- ---- the causes of the order
-
-abbrev Among : List Cause → Cause → Type 0
-Among [] x = ⊥
-Among (y ∷ ys) x = (y ≡ x) ⊎ Among ys x
-
-is_among : (x : Cause) → Among causes x
-is_among BadLine = inl refl
-is_among BadCommand = inr (inl refl)
-is_among CutShort = inr (inr (inl refl))
-is_among Outside = inr (inr (inr (inl refl)))
-is_among TooLarge = inr (inr (inr (inr (inl refl))))
-is_among NoScenario = inr (inr (inr (inr (inr (inl refl)))))
-is_among InUse = inr (inr (inr (inr (inr (inr (inl refl))))))
-is_among TooMany = inr (inr (inr (inr (inr (inr (inr (inl refl)))))))
-is_among BadField = inr (inr (inr (inr (inr (inr (inr (inr (inl refl))))))))
-is_among TooLong = inr (inr (inr (inr (inr (inr (inr (inr (inr (inl refl)))))))))
-is_among OutOfSheet = inr (inr (inr (inr (inr (inr (inr (inr (inr (inr (inl refl))))))))))
-is_among NumberRange = inr (inr (inr (inr (inr (inr (inr (inr (inr (inr (inr (inl refl)))))))))))
-is_among TooDeep = inr (inr (inr (inr (inr (inr (inr (inr (inr (inr (inr (inr (inl refl))))))))))))
-is_among Syntax = inr (inr (inr (inr (inr (inr (inr (inr (inr (inr (inr (inr (inr (inl refl)))))))))))))
-is_among LeavesSheet = inr (inr (inr (inr (inr (inr (inr (inr (inr (inr (inr (inr (inr (inr (inl refl))))))))))))))
-is_among Stale = inr (inr (inr (inr (inr (inr (inr (inr (inr (inr (inr (inr (inr (inr (inr (inl refl)))))))))))))))
-is_among Loop = inr (inr (inr (inr (inr (inr (inr (inr (inr (inr (inr (inr (inr (inr (inr (inr (inl refl))))))))))))))))
-is_among Full = inr (inr (inr (inr (inr (inr (inr (inr (inr (inr (inr (inr (inr (inr (inr (inr (inr (inl refl)))))))))))))))))
-is_among EditLimit = inr (inr (inr (inr (inr (inr (inr (inr (inr (inr (inr (inr (inr (inr (inr (inr (inr (inr (inl refl))))))))))))))))))
-
 -- ---- causes none of which holds
 
 module _ (s : State) (c : Command) where
@@ -67,13 +40,26 @@ module _ (s : State) (c : Command) where
   behind_none [] ys x n h = h
   behind_none (z ∷ zs) ys x n h = inr (n.0, behind_none zs ys x n.1 h)
 
-  none_among : (xs : List Cause) → NoneHolds xs → (x : Cause) → Among xs x → Holds s x c → ⊥
-  none_among [] n x a h = a
-  none_among (y ∷ ys) n x (inl same) h = n.0 (subst (λ (z : Cause). Holds s z c) (sym same) h)
-  none_among (y ∷ ys) n x (inr a) h = none_among ys n.1 x a h
-
   pub no_cause : NoneHolds causes → (x : Cause) → Holds s x c → ⊥
-  no_cause n x h = none_among causes n x (is_among x) h
+  no_cause n BadLine = n.0
+  no_cause n BadCommand = n.1.0
+  no_cause n CutShort = n.1.1.0
+  no_cause n Outside = n.1.1.1.0
+  no_cause n TooLarge = n.1.1.1.1.0
+  no_cause n NoScenario = n.1.1.1.1.1.0
+  no_cause n InUse = n.1.1.1.1.1.1.0
+  no_cause n TooMany = n.1.1.1.1.1.1.1.0
+  no_cause n BadField = n.1.1.1.1.1.1.1.1.0
+  no_cause n TooLong = n.1.1.1.1.1.1.1.1.1.0
+  no_cause n OutOfSheet = n.1.1.1.1.1.1.1.1.1.1.0
+  no_cause n NumberRange = n.1.1.1.1.1.1.1.1.1.1.1.0
+  no_cause n TooDeep = n.1.1.1.1.1.1.1.1.1.1.1.1.0
+  no_cause n Syntax = n.1.1.1.1.1.1.1.1.1.1.1.1.1.0
+  no_cause n LeavesSheet = n.1.1.1.1.1.1.1.1.1.1.1.1.1.1.0
+  no_cause n Stale = n.1.1.1.1.1.1.1.1.1.1.1.1.1.1.1.0
+  no_cause n Loop = n.1.1.1.1.1.1.1.1.1.1.1.1.1.1.1.1.0
+  no_cause n Full = n.1.1.1.1.1.1.1.1.1.1.1.1.1.1.1.1.1.0
+  no_cause n EditLimit = n.1.1.1.1.1.1.1.1.1.1.1.1.1.1.1.1.1.1.0
 
   pub first_holds : (xs : List Cause) (x : Cause) → IsFirstOf s c xs x → Holds s x c
   first_holds [] x h = absurd h

@@ -1,7 +1,6 @@
 -- That each scenario has a chain after every run.
 use Rattle.wi_scenarios.proofs.Words.{◌∙◌, ◌||◌, ℕ, Bool, false, not, inl, inr, List, [], ◌∷◌, Option, Ok, Err, refl, sym, ap, subst, list_any, Stored, has_scenario, scenario_for, with_own, without_own, is_full, is_name_of, is_base, lacks, would_loop, State, state_over, left_by, Answer, Event, MayHappen, KeepsChains, GivesChain, Command, Set, Clear, Fill, Csv, Scenario, Drop, Base, Unknown, Unreadable, Cell, address, Cause, NoScenario, InUse, TooMany, Loop, Holds, Does, IsStep, false_from_ne_true, not-false, or_parts, HasChains, based_kept, dropped_kept, has_space, is_chain, no_scenarios, own_kept}
 use Rattle.wi_scenario_list.specs.Scenarios as list
-use Rattle.wi_scenarios.specs.declared.refusal.Refusal.TheVariants as refusal
 use Rattle.wi_scenarios.proofs.CauseTests.{is_in_use, tested}
 use Rattle.wi_scenarios.proofs.ScenarioSteps.{missing_base}
 

@@ -2,7 +2,7 @@
 use Rattle.wi_scenarios.proofs.Words.{◌≡◌, ◌∙◌, Bool, true, false, ◌||◌, List, [], ◌∷◌, map, filter, None, Err, if◌then◌else◌, refl, sym, ap, subst, list_any, or-false, keys_of, both_ways, Area, is_within, State, Answer, edit_answer, Sheet, Edit, occupied_in, Command, Clear, form, CornerCells, is_outside, area, corners, Put, lies_outside, is_missing, IsStep, ℕ, IsSpanned, Option, Result, Content, Refusal, Serves, IsErrAnd, Memory}
 use Rattle.wi_scenarios.specs.declared.refusal.Refusal.TheVariants as refusal
 use Rattle.wi_scenarios.proofs.CauseTests.{NoneHolds}
-use Rattle.wi_scenarios.proofs.EditLemmas.{outside_first, front, edit_step, same_edit, edit_serves, edit_lacks, none_forced}
+use Rattle.wi_scenarios.proofs.EditLemmas.{outside_first, any_forced, front, edit_step, same_edit, edit_serves, edit_lacks, none_forced}
 
 -- each occupied cell of the rectangle gets no content
 abbrev pub clear_edit : Sheet → Area → Edit
@@ -12,10 +12,8 @@ clear_edit sheet area = record { named = area ∷ []; contents = map (λ a. (a, 
 abbrev pub cleared : State → Bool → Area → Answer
 cleared s force a = edit_answer s force (clear_edit s.stored.sheet a)
 
--- an edit may be forced: its form has a word more
 pub clear_outside : (force out : Bool) (r : CornerCells) → (is_outside r.0 || is_outside r.1) ≡ out → list_any lies_outside (form (Clear force r)) ≡ out
-clear_outside true out r o = or-false _ ∙ o
-clear_outside false out r o = or-false _ ∙ o
+clear_outside force out r o = any_forced lies_outside force _ refl ∙ or-false _ ∙ o
 
 module _ (s : State) (force : Bool) (r : CornerCells) where
   abbrev clear : Command

@@ -1,11 +1,11 @@
 -- The command `csv`: its step, by what its body finds, and what a call leaves.
-use Rattle.wi_scenarios.proofs.Words.{◌≡◌, ◌∙◌, ◌<◌, ◌≤◌, ℕ, Bool, true, false, ◌==◌, List, [], ◌∷◌, length, inl, inr, Option, Some, Ok, Err, Result, if◌then◌else◌, refl, sym, ap, subst, arith, list_any, or-false, Any, both_ways, Area, Content, ImportFault, Field, fields_at, record_areas_at, AreChanges, IsFault, no_other, one_list, State, max_area, Answer, import_refusal, edit_answer, ◌-◌, None, nat_lt, nat_tests, some_import, Command, Csv, form, Cell, is_outside, cell, Put, fields, named, Cause, BadLine, BadCommand, CutShort, BadField, TooLong, OutOfSheet, Holds, lies_outside, is_missing, IsStep, causes, IsFirstOf, All, IsUtf8, IsImported, IsInside, bad_field, too_long, out_of_sheet, max_line, without_lf, IsImportStep, ◌≢◌, map, AllZip, keys_of, IsErrAnd, field_cell, IsChange, Refusal, Memory, MayRefuse, Serves, MayRefuseData, ServesData, imported_cells, IsPlaced, ◌↔◌, ltb-true, lt-ltb, ◌++◌, take, drop}
+use Rattle.wi_scenarios.proofs.Words.{◌≡◌, ◌∙◌, ◌<◌, ◌≤◌, ℕ, Bool, true, false, ◌==◌, List, [], ◌∷◌, length, inl, inr, Option, Some, Ok, Err, Result, if◌then◌else◌, refl, sym, ap, subst, arith, list_any, or-false, Any, both_ways, Area, Content, ImportFault, Field, fields_at, record_areas_at, AreChanges, IsFault, no_other, one_list, State, Answer, import_refusal, edit_answer, ◌-◌, None, nat_lt, nat_tests, some_import, Command, Csv, form, Cell, is_outside, cell, Put, fields, named, Cause, BadLine, BadCommand, CutShort, BadField, TooLong, OutOfSheet, Holds, lies_outside, is_missing, IsStep, causes, IsFirstOf, All, IsUtf8, IsImported, IsInside, bad_field, too_long, out_of_sheet, max_line, without_lf, IsImportStep, ◌≢◌, map, AllZip, keys_of, IsErrAnd, field_cell, IsChange, Refusal, Memory, MayRefuse, Serves, MayRefuseData, ServesData, imported_cells, IsPlaced, ◌↔◌, ltb-true, lt-ltb, ◌++◌, take, drop}
 use Rattle.wi_import.specs.Imports.{IsImport}
 use Rattle.wi_import.specs.declared.fault.ImportFault.TheVariants as import
 use Rattle.wi_scenarios.specs.declared.refusal.Refusal.TheVariants as refusal
 use Rattle.wi_scenarios.proofs.CallLemmas.{ends_so}
 use Rattle.wi_scenarios.proofs.CauseTests.{any_is, NoneHolds, both_none, behind_none}
-use Rattle.wi_scenarios.proofs.EditLemmas.{outside_first, last, edit_step, front, none_forced, few_forced}
+use Rattle.wi_scenarios.proofs.EditLemmas.{outside_first, last, edit_step, front, any_forced, none_forced, few_forced}
 
 -- what an import comes to: what cells get, or a fault
 abbrev pub ImportOutcome : Type 0
@@ -30,25 +30,21 @@ no_long lines h k =
 
 -- ---- the step
 
+pub csv_outside : (force : Bool) (c : Cell) (n : ℕ) (lines : List (List ℕ)) → list_any lies_outside (form (Csv force (Some c) n lines)) ≡ is_outside c
+csv_outside force c n lines = any_forced lies_outside force _ refl ∙ or-false _
+
 module _ (s : State) (force : Bool) (c : Cell) (n : ℕ) (lines : List (List ℕ)) where
   abbrev csv : Command
   csv = Csv force (Some c) n lines
 
-  outside_is : (b : Bool) → list_any lies_outside (form (Csv b (Some c) n lines)) ≡ is_outside c
-  outside_is true = or-false (is_outside c)
-  outside_is false = or-false (is_outside c)
-
-  few : 1 ≤ max_area
-  few = omega arith
-
   module _ (short : Holds s BadLine csv → ⊥) (come : Holds s CutShort csv → ⊥) where
     csv_out : is_outside c ≡ true → IsStep s csv (Err refusal.OutOfSheet)
-    csv_out o = outside_first s csv short (λ k. k) come (outside_is force ∙ o)
+    csv_out o = outside_first s csv short (λ k. k) come (csv_outside force c n lines ∙ o)
 
     module _ (o : is_outside c ≡ false) where
       none_first : NoneHolds s csv (take 8 front)
       none_first =
-          (short, (λ k. k, (come, (λ k. both_ways _ (outside_is force ∙ o) k, (few_forced force _ few, (none_forced (is_missing s) force _ refl refl, (λ k. k, (λ k. k, tt))))))))
+          (short, (λ k. k, (come, (λ k. both_ways _ (csv_outside force c n lines ∙ o) k, (few_forced force _ refl, (none_forced (is_missing s) force _ refl refl, (λ k. k, (λ k. k, tt))))))))
 
       in_front : (x : Cause) → IsFirstOf s csv (drop 8 front ++ last) x → IsFirstOf s csv causes x
       in_front x h = behind_none s csv (take 8 front) (drop 8 front ++ last) x none_first h
@@ -59,17 +55,11 @@ module _ (s : State) (force : Bool) (c : Cell) (n : ℕ) (lines : List (List ℕ
             let same : ◌≡◌ {A = ImportOutcome} (Ok puts) (Err e) = no_other (fields c lines) (Ok puts) (Err e) are h in
             cc
 
-        no_bad : Any (λ f. IsUtf8 f.bytes → ⊥) (fields c lines) → ⊥
-        no_bad h = other import.BadField (bad_field _ h)
-
-        none_too_long : Any (λ f. IsImported f.bytes None) (fields c lines) → ⊥
-        none_too_long h = other import.TooLong (too_long _ are.texts h)
-
-        no_outside : Any (λ f. IsInside f → ⊥) (fields c lines) → ⊥
-        no_outside h = all_any IsInside (fields c lines) are.inside h
-
         no_fault : NoneHolds s csv (drop 8 front)
-        no_fault = (no_bad, (none_too_long, (no_outside, (λ k. k, (λ k. k, (λ k. k, (λ k. k, tt)))))))
+        no_fault = (
+          λ h. other import.BadField (bad_field _ h),
+          (λ h. other import.TooLong (too_long _ are.texts h), (all_any IsInside (fields c lines) are.inside, (λ k. k, (λ k. k, (λ k. k, (λ k. k, tt)))))),
+        )
 
         importing : IsStep s csv (edit_answer s force (record { named = named csv; contents = puts }))
         importing = edit_step s csv force (named csv) puts are.each (one_list (fields c lines)) refl refl (λ h. h) (both_none s csv (take 8 front) (drop 8 front) none_first no_fault) (λ d h. h)

@@ -1,5 +1,5 @@
 -- The end of the step of an edit, and what it leaves: stale cells, the limits of the sheet, the edit.
-use Rattle.wi_scenarios.proofs.Words.{◌≡◌, ◌<◌, ◌≤◌, ℕ, Bool, true, false, nat_lt, nat_le, List, [], ◌∷◌, length, ◌⊎◌, inl, inr, Option, Some, None, Ok, Err, refl, sym, subst, arith, leb-true, ltb-true, Area, State, Answer, edit_answer, stale_in, Command, Put, Puts, is_forced, named, sheet_with, after_edit, Cause, BadLine, BadCommand, CutShort, Outside, Stale, Loop, Full, EditLimit, Holds, stale_cell, Does, IsStep, causes, IsFirstOf, accepted, not, ◌&&◌, ◌||◌, ◌++◌, map, ⊎_elim, Result, ap, ◌∙◌, slice_index_or, IfOk, IsErrAnd, keys_of, cases_lt, false_from_ne_true, false≢true, or_left, or_right, or_parts, or_cases, length-keys_of, Replacement, Content, Sheet, StoreFault, Stored, edited, change_without_empty, applied, shown, IsMarking, same_off_edited, accepted_is, Entry, Kept, effective, value_in, sheet_size, is_one_of, Session, new_session, Roster, pending_of, vacant_of, is_pending_for_all, all_have_so, one_of_all_has, Refusal, Memory, Desk, may_grow, MayRefuse, Serves, Edit, limit_of, is_pending, AddsOnly, state_of, AreCovered, IsClosed, AreClosed, IsSound, AreMarked, HasRooms, SameBeside, MayFail, Commits, answer_by, none-some, both_ways, lt-ltb, le-leb, has_at, TooLarge, NoScenario, InUse, TooMany, BadField, TooLong, OutOfSheet, NumberRange, TooDeep, Syntax, LeavesSheet, Operand, WORD, may_force, list_any, cells_asked, codes, max_area}
+use Rattle.wi_scenarios.proofs.Words.{◌≡◌, ◌<◌, ◌≤◌, ℕ, Bool, true, false, nat_lt, nat_le, List, [], ◌∷◌, length, ◌⊎◌, inl, inr, Option, Some, None, Ok, Err, refl, sym, subst, arith, leb-true, ltb-true, Area, State, Answer, edit_answer, stale_in, Command, Put, Puts, is_forced, named, sheet_with, after_edit, Cause, BadLine, BadCommand, CutShort, Outside, Stale, Loop, Full, EditLimit, Holds, stale_cell, Does, IsStep, causes, IsFirstOf, accepted, not, ◌&&◌, ◌||◌, ◌++◌, map, ⊎_elim, Result, ap, ◌∙◌, slice_index_or, IfOk, IsErrAnd, keys_of, cases_lt, and_parts, nil_from_length, false_from_ne_true, false≢true, or_left, or_right, or_parts, or_cases, length-keys_of, Replacement, Content, Sheet, StoreFault, Stored, edited, change_without_empty, applied, shown, IsMarking, same_off_edited, accepted_is, Entry, Kept, effective, value_in, sheet_size, is_one_of, Session, new_session, Roster, pending_of, vacant_of, is_pending_for_all, all_have_so, one_of_all_has, Refusal, Memory, Desk, may_grow, MayRefuse, Serves, Edit, limit_of, is_pending, AddsOnly, state_of, AreCovered, IsClosed, AreClosed, IsSound, AreMarked, HasRooms, SameBeside, MayFail, Commits, answer_by, none-some, both_ways, lt-ltb, le-leb, has_at, TooLarge, NoScenario, InUse, TooMany, BadField, TooLong, OutOfSheet, NumberRange, TooDeep, Syntax, LeavesSheet, Operand, WORD, may_force, list_any, cells_asked, codes, max_area}
 use Rattle.wi_scenarios.specs.declared.refusal.Refusal.TheVariants as refusal
 use Rattle.wi_store.specs.declared.fault.StoreFault.TheVariants as store
 use Rattle.wi_scenarios.proofs.CallLemmas.{serves_as, lacked}
@@ -10,11 +10,14 @@ pub outside_first : (s : State) (c : Command) → (Holds s BadLine c → ⊥) �
 outside_first s c line command come outside = (Outside, inr (line, inr (command, inr (come, inl (outside, refl)))), refl)
 
 -- an edit may be forced: its form has a word more, which is no operand
-pub none_forced : (p : Operand → Bool) (force : Bool) (os : List Operand) → p (WORD (codes "force")) ≡ false → list_any p os ≡ false → list_any p (may_force force os) ≡ true → ⊥
-none_forced p true os e f h = both_ways _ f (ap (λ (b : Bool). b || list_any p os) (sym e) ∙ h)
-none_forced p false os e f h = both_ways _ f h
+pub any_forced : (p : Operand → Bool) (force : Bool) (os : List Operand) → p (WORD (codes "force")) ≡ false → list_any p (may_force force os) ≡ list_any p os
+any_forced p true os e = ap (λ (b : Bool). b || list_any p os) e
+any_forced p false os e = refl
 
-pub few_forced : (force : Bool) (os : List Operand) → cells_asked os ≤ max_area → max_area < cells_asked (may_force force os) → ⊥
+pub none_forced : (p : Operand → Bool) (force : Bool) (os : List Operand) → p (WORD (codes "force")) ≡ false → list_any p os ≡ false → list_any p (may_force force os) ≡ true → ⊥
+none_forced p force os e f h = both_ways _ (any_forced p force os e ∙ f) h
+
+pub few_forced : (force : Bool) (os : List Operand) → cells_asked os ≡ 1 → max_area < cells_asked (may_force force os) → ⊥
 few_forced true os e h = omega (arith, e, h)
 few_forced false os e h = omega (arith, e, h)
 
@@ -227,22 +230,18 @@ pub record AreTaken (old new : Roster) : Type 0 where
   pub pending : (i a : ℕ) → is_one_of (pending_of new i) a ≡ (is_one_of (pending_of old i) a || is_one_of (vacant_of old i) a)
   pub vacant : (i : ℕ) → vacant_of new i ≡ []
 
-not_found : (v f p : Bool) → v ≡ (f && not p) → p ≡ false → v ≡ false → f ≡ false
+-- what gets no room is not found
+pub not_found : (v f p : Bool) → v ≡ (f && not p) → p ≡ false → v ≡ false → f ≡ false
 not_found v true true e k h = cc
 not_found v true false e k h = sym e ∙ h
 not_found v false p e k h = refl
 
-is_found : (v f p : Bool) → v ≡ (f && not p) → v ≡ true → f ≡ true
-is_found v true p e h = refl
-is_found v false p e h = sym e ∙ h
-
 -- an edit of no cell leaves the sheet as it is
 stays : (s : Sheet) (contents : List (ℕ × Option Content)) → length contents ≡ 0 → edited s (map change_without_empty contents) ≡ s
-stays s [] e = refl
-stays s (x ∷ xs) e = absurd (omega (arith, e))
+stays s contents e = ap (λ (xs : List (ℕ × Option Content)). edited s (map change_without_empty xs)) (nil_from_length contents e)
 
 -- what is found is pending then, whether it was or got room
-covers : (p q v f : Bool) → q ≡ p → v ≡ (f && not p) → f ≡ true → (q || v) ≡ true
+pub covers : (p q v f : Bool) → q ≡ p → v ≡ (f && not p) → f ≡ true → (q || v) ≡ true
 covers true q v f e w h = ap (λ (b : Bool). b || v) e
 covers false q v f e w h = or_right q v (w ∙ ap (λ (b : Bool). b && true) h)
 
@@ -314,7 +313,7 @@ module _ (marked : Sheet → List ℕ → ℕ → Bool) (law : IsMarking marked)
     was_or_found : (i a : ℕ) → i < length d.sessions.sessions → is_one_of (pending_of r i) a ≡ true → (is_one_of (pending_of d.sessions i) a ≡ true) ⊎ (is_one_of found a ≡ true)
     was_or_found i a l h =
         ⊎_elim (λ (p : is_one_of (pending_of n.sessions i) a ≡ true). inl (sym (pending_then i a) ∙ p))
-        (λ (v : is_one_of (vacant_of n.sessions i) a ≡ true). inr (is_found _ _ _ (room_at i a l) v))
+        (λ (v : is_one_of (vacant_of n.sessions i) a ≡ true). inr (and_parts (is_one_of found a) _ (sym (room_at i a l) ∙ v)).0)
         (or_cases _ _ (sym (taken.pending i a) ∙ h))
 
     -- what a cell marks in the new sheet it marked in the old one, or the edited cells did

@@ -6,7 +6,7 @@ use Rattle.wi_parser.specs.declared.shift.ShiftFault.TheVariants as shift
 use Rattle.wi_scenarios.proofs.CallLemmas.{ends_so}
 use Rattle.wi_scenarios.proofs.CauseTests.{is_large, any_is, none_there, NoneHolds, both_none, behind_none}
 use Rattle.wi_scenarios.proofs.OperandLemmas.{once}
-use Rattle.wi_scenarios.proofs.EditLemmas.{outside_first, last, edit_step, edit_grows, same_edit, edit_serves, front, none_forced}
+use Rattle.wi_scenarios.proofs.EditLemmas.{outside_first, last, edit_step, edit_grows, same_edit, edit_serves, front, any_forced, none_forced}
 
 -- each cell of the rectangle gets its copy
 abbrev pub fill_edit : Sheet → ℕ → Area → Edit
@@ -56,8 +56,7 @@ module _ (copy : ℕ → Option (Option Content)) where
 -- ---- the step
 
 pub fill_outside : (force one two : Bool) (c : Cell) (r : CornerCells) → is_outside c ≡ one → (is_outside r.0 || is_outside r.1) ≡ two → list_any lies_outside (form (Fill force c r)) ≡ (one || two)
-fill_outside true one two c r o p = ap₂ ◌||◌ o (or-false _ ∙ p)
-fill_outside false one two c r o p = ap₂ ◌||◌ o (or-false _ ∙ p)
+fill_outside force one two c r o p = any_forced lies_outside force _ refl ∙ ap₂ ◌||◌ o (or-false _ ∙ p)
 
 module _ (s : State) (force : Bool) (c : Cell) (r : CornerCells) where
   abbrev fill : Command

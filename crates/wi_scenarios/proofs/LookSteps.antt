@@ -1,9 +1,9 @@
 -- The steps of the commands that look at cells, by what their bodies find.
-use Rattle.wi_scenarios.proofs.Words.{◌≡◌, ◌∙◌, ◌*◌, ℕ, Bool, true, false, not, ◌||◌, nat_lt, List, length, Option, Some, None, Result, Ok, Err, if◌then◌else◌, refl, sym, ap, subst, arith, list_any, or-false, Area, size_of, effective, has_scenario, lacks, rows_shown, export_of, cells_compared, shown, content_record, change_records, told, Refusal, State, max_area, current_session, with_current, current_replacements, Answer, ServesInto, change_list, Command, Show, Export, Compare, Formula, Changes, form, CornerCells, is_outside, area, cell, corners, Cause, Outside, TooLarge, NoScenario, is_missing, Does, IsStep, IsPlaced, IsSpanned, ◌&&◌, nat_le, nat_tests, option_map, is_column, has_row, entries, table_of, Table, Cell, address, second_input, is_bent, lies_outside, cells_asked, BadCommand, IsTablePlaced}
+use Rattle.wi_scenarios.proofs.Words.{◌≡◌, ◌∙◌, ◌*◌, ℕ, Bool, true, false, not, ◌||◌, nat_lt, List, length, Option, Some, None, Result, Ok, Err, if◌then◌else◌, refl, sym, ap, subst, arith, list_any, or-false, or_from, Area, size_of, effective, has_scenario, lacks, rows_shown, export_of, cells_compared, shown, content_record, change_records, told, Refusal, State, max_area, current_session, with_current, current_replacements, Answer, ServesInto, change_list, Command, Show, Export, Compare, Formula, Changes, form, CornerCells, is_outside, area, cell, corners, Cause, Outside, TooLarge, NoScenario, is_missing, Does, IsStep, IsPlaced, IsSpanned, ◌&&◌, nat_le, nat_tests, option_map, is_column, has_row, entries, table_of, Table, Cell, address, second_input, is_bent, lies_outside, cells_asked, BadCommand, IsTablePlaced}
 use Rattle.wi_scenarios.specs.declared.refusal.Refusal.TheVariants as refusal
 use Rattle.wi_scenarios.proofs.CauseTests.{EditsNone, first_found, refused_for, accepted, is_misshaped}
 use Rattle.wi_scenarios.proofs.CallLemmas.{serves_as, Looked}
-use Rattle.wi_scenarios.proofs.OperandLemmas.{neither, once}
+use Rattle.wi_scenarios.proofs.OperandLemmas.{once}
 
 -- a call that wrote some records, and did as an answer of a step says
 looked_step : (s : State) (c : Command) (step : Answer) → IsStep s c step → (r : Result (Unit {0}) Refusal) (t : State) (before after : List ℕ) → Looked step r s t before after
@@ -159,13 +159,13 @@ module _ (s : State) (f r : ℕ) (xs : Area) where
 
   none_outside : (second : Option (ℕ × Area)) → IsTablePlaced f r xs second → list_any lies_outside (form (Table (cell f) (cell r) (corners xs) (second_input second))) ≡ false
   none_outside None h =
-      neither (is_outside (cell f)) (is_outside (cell r) || (out_of xs || false)) h.formula_cell.inside
-      (neither (is_outside (cell r)) (out_of xs || false) h.input.inside (neither (out_of xs) false h.column.inside refl))
+      or_from (is_outside (cell f)) (is_outside (cell r) || (out_of xs || false)) h.formula_cell.inside
+      (or_from (is_outside (cell r)) (out_of xs || false) h.input.inside (or_from (out_of xs) false h.column.inside refl))
   none_outside (Some y) h =
-      neither (is_outside (cell f)) (is_outside (cell r) || (out_of xs || (is_outside (cell y.0) || (out_of y.1 || false)))) h.formula_cell.inside
-      (neither (is_outside (cell r)) (out_of xs || (is_outside (cell y.0) || (out_of y.1 || false))) h.input.inside
-      (neither (out_of xs) (is_outside (cell y.0) || (out_of y.1 || false)) h.column.inside
-      (neither (is_outside (cell y.0)) (out_of y.1 || false) h.second.0.inside (neither (out_of y.1) false h.second.1.inside refl))))
+      or_from (is_outside (cell f)) (is_outside (cell r) || (out_of xs || (is_outside (cell y.0) || (out_of y.1 || false)))) h.formula_cell.inside
+      (or_from (is_outside (cell r)) (out_of xs || (is_outside (cell y.0) || (out_of y.1 || false))) h.input.inside
+      (or_from (out_of xs) (is_outside (cell y.0) || (out_of y.1 || false)) h.column.inside
+      (or_from (is_outside (cell y.0)) (out_of y.1 || false) h.second.0.inside (or_from (out_of y.1) false h.second.1.inside refl))))
 
   size_is : (second : Option (ℕ × Area)) → IsTablePlaced f r xs second → cells_asked (form (Table (cell f) (cell r) (corners xs) (second_input second))) ≡ entries xs second
   size_is None h = ap (λ (a : Area). size_of a * 1) h.column.again

@@ -1,9 +1,5 @@
 -- Addresses and rectangles of the sheet as operands of commands.
-use Rattle.wi_scenarios.proofs.Words.{◌≡◌, ◌∙◌, ℕ, ◌<◌, ◌≤◌, ◌||◌, Bool, true, false, nat_le, min, max, ap, arith, nat_tests, Area, place, rect_of, row_of, column_of, rows, columns, Cell, CornerCells, is_outside, address, area, cell, height, width, IsPlaced, IsSpanned, or_parts, ◌*◌}
-
-pub neither : (a b : Bool) → a ≡ false → b ≡ false → (a || b) ≡ false
-neither false b h k = k
-neither true b h k = h
+use Rattle.wi_scenarios.proofs.Words.{◌≡◌, ◌∙◌, ℕ, ◌<◌, ◌≤◌, ◌||◌, false, nat_le, min, max, ap, arith, nat_tests, Area, place, rect_of, row_of, column_of, rows, columns, Cell, CornerCells, is_outside, address, area, cell, height, width, IsPlaced, IsSpanned, or_from, or_parts, ◌*◌}
 
 -- a number of cells, as a product
 pub once : (n : ℕ) → n * 1 ≡ n
@@ -20,7 +16,7 @@ below m n e = grind (arith, nat_tests)
 in_sheet : (a : ℕ) → row_of a < rows → is_outside (cell a) ≡ false
 in_sheet a l =
     let k : column_of a < columns = omega arith in
-    neither (nat_le rows (row_of a)) (nat_le columns (column_of a)) (not_above rows (row_of a) l) (not_above columns (column_of a) k)
+    or_from (nat_le rows (row_of a)) (nat_le columns (column_of a)) (not_above rows (row_of a) l) (not_above columns (column_of a) k)
 
 address_again : (a : ℕ) → address (cell a) ≡ a
 address_again a = omega arith
@@ -48,7 +44,7 @@ area_again first last down right =
 
 pub spanned : (r : Area) → row_of r.first < rows → row_of r.last < rows → row_of r.first ≤ row_of r.last → column_of r.first ≤ column_of r.last → IsSpanned r
 spanned r top bottom down right = record {
-  inside = neither (is_outside (cell r.first)) (is_outside (cell r.last)) (in_sheet r.first top) (in_sheet r.last bottom);
+  inside = or_from (is_outside (cell r.first)) (is_outside (cell r.last)) (in_sheet r.first top) (in_sheet r.last bottom);
   again = area_again r.first r.last down right;
 }
 

@@ -1,5 +1,5 @@
 -- The records of a change list tell it.
-use Rattle.wi_scenarios.proofs.Words.{◌≡◌, ◌≢◌, ◌∙◌, ℕ, zero, suc, ◌+◌, ◌<◌, ◌≤◌, Bool, true, false, not, cond, List, [], ◌∷◌, map, get_or, Result, Ok, refl, sym, ap, arith, bytes_eq, both_ways, same_Some, bytes_eq-Decides, AllByRecursion, range_with_len, All-map, flat_map-map, address_text, read_address, imported, error_name, logical_name, shown_text, AddressFault, ErrorKind, NotAvailable, DivisionByZero, UnknownName, BadNumber, BadReference, BadValue, Circular, Value, Empty, Number, Text, Logical, Fault, numbers_read_back, addresses_read_back, recs, row, read_again, sheet_size, value_in, same_value, kind_text, change_records, State, current_session, shown_to, change_list, change_fields, RecordsTellList, Changes, IsStep, filter}
+use Rattle.wi_scenarios.proofs.Words.{◌≡◌, ◌≢◌, ◌∙◌, ℕ, zero, suc, ◌+◌, ◌<◌, ◌≤◌, Bool, true, false, not, cond_both, List, [], ◌∷◌, map, get_or, Result, Ok, refl, sym, ap, arith, bytes_eq, both_ways, same_Some, bytes_eq-Decides, AllByRecursion, range_with_len, All-map, flat_map-map, address_text, read_address, imported, error_name, logical_name, shown_text, AddressFault, ErrorKind, NotAvailable, DivisionByZero, UnknownName, BadNumber, BadReference, BadValue, Circular, Value, Empty, Number, Text, Logical, Fault, numbers_read_back, addresses_read_back, recs, row, read_again, sheet_size, value_in, same_value, kind_text, change_records, State, current_session, shown_to, change_list, change_fields, RecordsTellList, Changes, IsStep, filter}
 
 -- ---- one change
 
@@ -71,12 +71,10 @@ one_list (d ∷ ds) (e ∷ es) k l h =
 -- what has changed are cells of the sheet
 within : (p : ℕ → Bool) (f : ℕ → Value) (n a high : ℕ) → a + n ≤ high → AreBelow high (map (λ c. (c, f c)) (filter p (range_with_len a n)))
 within p f zero a high l = tt
-within p f (suc n) a high l = by (p a) (within p f n (a + 1) high (omega (arith, l)))
-  where
-    by : (b : Bool) → AreBelow high (map (λ c. (c, f c)) (filter p (range_with_len (a + 1) n)))
-        → AreBelow high (map (λ c. (c, f c)) (cond b (a ∷ filter p (range_with_len (a + 1) n)) (filter p (range_with_len (a + 1) n))))
-    by true rest = (omega (arith, l), rest)
-    by false rest = rest
+within p f (suc n) a high l =
+    let rest = within p f n (a + 1) high (omega (arith, l)) in
+    cond_both (p a) (a ∷ filter p (range_with_len (a + 1) n)) (filter p (range_with_len (a + 1) n)) (λ (cs : List ℕ). AreBelow high (map (λ c. (c, f c)) cs))
+    (λ h. (omega (arith, l), rest)) (λ h. rest)
 
 in_sheet : (s : State) → AreInSheet (change_list s)
 in_sheet s =

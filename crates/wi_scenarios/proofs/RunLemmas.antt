@@ -1,5 +1,5 @@
 -- What each command leaves, and what it does to the sessions and to the log.
-use Rattle.wi_scenarios.proofs.Words.{◌≡◌, ◌∙◌, ℕ, inl, inr, Bool, true, false, cond, List, [], ◌∷◌, Some, Ok, Err, refl, sym, ap, subst, find, bytes_eq, bytes_eq-Decides, is_named, scenario_for, with_scenario, without_scenario, with_own, without_own, scenario_or_new, found_with, found_without, State, Answer, Event, MayHappen, IsEdited, HasScenarioChanged, Leaves, Command, Set, Clear, Fill, Csv, Scenario, Drop, Base, Unknown, Unreadable, address, named, Put, after_edit, Does, state_with, IsStep, ◌≢◌, zero, suc, ◌+◌, ◌<◌, ◌≤◌, ◌==◌, ◌⊎◌, not, ◌&&◌, ◌||◌, ◌++◌, length, get_or, arith, list_any, position_or_len, eqb-true, eqb-false, ne_eqb, false≢true, length-set, length-append, get_or-set_same, get_or-set_other, Stored, with_changes, Session, new_session, has_session, with_session, index_of, using_scenario, told, state_over, current_session, with_current, change_list, left_by, MayFollow, IsCoherent, StaysCoherent, KeepsApart, is_changes, is_accepted_changes, with_lists, ListsAddUp, named_by, logged, LogGrows, Use, As, Changes, append-nil, prefix_len-le-length}
+use Rattle.wi_scenarios.proofs.Words.{◌≡◌, ◌∙◌, ℕ, inl, inr, Bool, true, false, cond, List, [], ◌∷◌, Some, Ok, Err, refl, sym, ap, subst, find, bytes_eq, bytes_eq-Decides, is_named, scenario_for, with_scenario, without_scenario, with_own, without_own, scenario_or_new, found_with, found_without, State, Answer, Event, MayHappen, IsEdited, HasScenarioChanged, Leaves, Command, Set, Clear, Fill, Csv, Scenario, Drop, Base, Unknown, Unreadable, address, named, Put, after_edit, Does, state_with, IsStep, ◌≢◌, zero, suc, ◌+◌, ◌<◌, ◌≤◌, ◌==◌, ◌⊎◌, not, ◌&&◌, ◌||◌, ◌++◌, length, get_or, arith, list_any, cond_both, Option, position_or_len, eqb-true, eqb-false, ne_eqb, false≢true, length-set, length-append, get_or-set_same, get_or-set_other, Stored, with_changes, Session, new_session, has_session, with_session, index_of, using_scenario, told, state_over, current_session, with_current, change_list, left_by, MayFollow, IsCoherent, StaysCoherent, KeepsApart, is_changes, is_accepted_changes, with_lists, ListsAddUp, named_by, logged, LogGrows, Use, As, Changes, append-nil, prefix_len-le-length}
 use Rattle.wi_scenarios.specs.Views.{session_at}
 use Rattle.wi_scenario_list.specs.Scenarios as list
 use Rattle.wi_scenarios.proofs.EventLemmas as events
@@ -15,11 +15,9 @@ Outcome s c (Err e) = Unit {0}
 -- the scenario that is found by a name, or made for it, has that name
 name_found : (name : List ℕ) (ys : List list.Scenario) → (scenario_or_new name (find (is_named name) ys)).name ≡ name
 name_found name [] = refl
-name_found name (y ∷ ys) = by (bytes_eq name y.name) refl (name_found name ys)
-  where
-    by : (b : Bool) → bytes_eq name y.name ≡ b → (scenario_or_new name (find (is_named name) ys)).name ≡ name → (scenario_or_new name (cond b (Some y) (find (is_named name) ys))).name ≡ name
-    by true h rest = sym ((bytes_eq-Decides name y.name).0 h)
-    by false h rest = rest
+name_found name (y ∷ ys) =
+    cond_both (bytes_eq name y.name) (Some y) (find (is_named name) ys) (λ (o : Option list.Scenario). (scenario_or_new name o).name ≡ name)
+    (λ h. sym ((bytes_eq-Decides name y.name).0 h)) (λ h. name_found name ys)
 
 -- a scenario of the name is put in, or the one of the name is taken out
 put_in : (s : State) (name : List ℕ) (x : list.Scenario) → x.name ≡ name → HasScenarioChanged name s (record s { scenarios = with_scenario s.scenarios x })
@@ -102,11 +100,10 @@ session_then i s Changes (Ok done) = cond (s.current == i) (told (current_sessio
 session_then i s c (Ok done) = session_at s i
 
 put_there : (s : State) (x : Session) (i : ℕ) → s.current < length s.sessions → session_at (with_current s x) i ≡ cond (s.current == i) x (session_at s i)
-put_there s x i w = by (s.current == i) refl
-  where
-    by : (b : Bool) → (s.current == i) ≡ b → session_at (with_current s x) i ≡ cond b x (session_at s i)
-    by true h = subst (λ (k : ℕ). session_at (with_current s x) k ≡ x) (eqb-true s.current i h) (get_or-set_same s.sessions s.current x (new_session []) w)
-    by false h = get_or-set_other s.sessions s.current i x (new_session []) (λ e. eqb-false s.current i h (sym e))
+put_there s x i w =
+    cond_both (s.current == i) x (session_at s i) (λ (y : Session). session_at (with_current s x) i ≡ y)
+    (λ h. subst (λ (k : ℕ). session_at (with_current s x) k ≡ x) (eqb-true s.current i h) (get_or-set_same s.sessions s.current x (new_session []) w))
+    (λ h. get_or-set_other s.sessions s.current i x (new_session []) (λ e. eqb-false s.current i h (sym e)))
 
 module _ {X : Type 0} (f : Session → X) where
   -- of a session that is there, or of what is one in all new sessions
@@ -123,11 +120,9 @@ module _ {X : Type 0} (f : Session → X) where
   put_behind (x ∷ xs) name (suc i) (inr e) = put_behind xs name i (inr e)
 
   with_new : (s : State) (name : List ℕ) (i : ℕ) → IsKept s i → f (get_or (with_session s.sessions name) i (new_session [])) ≡ f (session_at s i)
-  with_new s name i k = by (has_session s.sessions name)
-    where
-      by : (b : Bool) → f (get_or (cond b s.sessions (s.sessions ++ new_session name ∷ [])) i (new_session [])) ≡ f (session_at s i)
-      by true = refl
-      by false = put_behind s.sessions name i k
+  with_new s name i k =
+      cond_both (has_session s.sessions name) s.sessions (s.sessions ++ new_session name ∷ []) (λ (xs : List Session). f (get_or xs i (new_session [])) ≡ f (session_at s i))
+      (λ h. refl) (λ h. put_behind s.sessions name i k)
 
   pub part_then : (s : State) (c : Command) (a : Answer) (i : ℕ) → s.current < length s.sessions → IsKept s i → Outcome s c a
       → f (session_at (left_by s a) i) ≡ f (session_then i s c a)
@@ -171,14 +166,10 @@ first_before p (x ∷ xs) h = by (p x) refl (first_before p xs)
     by false e k = let l = k (ap (λ (c : Bool). c || list_any p xs) (sym e) ∙ h) in omega (arith, l)
 
 place_within : (xs : List Session) (name : List ℕ) → index_of xs name < length (with_session xs name)
-place_within xs name = by (has_session xs name) refl
-  where
-    by : (b : Bool) → has_session xs name ≡ b → index_of xs name < length (cond b xs (xs ++ new_session name ∷ []))
-    by true h = first_before (λ x. bytes_eq name x.name) xs h
-    by false h =
-        let k : index_of xs name ≤ length xs = prefix_len-le-length (λ (x : Session). not (bytes_eq name x.name)) xs in
-        let l = length-append xs (new_session name ∷ []) in
-        omega (arith, k, l)
+place_within xs name =
+    let k : index_of xs name ≤ length xs = prefix_len-le-length (λ (x : Session). not (bytes_eq name x.name)) xs in
+    cond_both (has_session xs name) xs (xs ++ new_session name ∷ []) (λ (ys : List Session). index_of xs name < length ys)
+    (λ h. first_before (λ x. bytes_eq name x.name) xs h) (λ h. omega (arith, k, length-append xs (new_session name ∷ [])))
 
 -- of states with the same sessions and current place
 same_within : (s t : State) → t.sessions ≡ s.sessions → t.current ≡ s.current → s.current < length s.sessions → t.current < length t.sessions
@@ -209,11 +200,9 @@ within_then s c (Ok done) w h = subst IsWithin (sym h) w
 -- how much of the log a session has seen
 seen_then : (i : ℕ) (s : State) (c : Command) (a : Answer) → (session_then i s c a).seen ≡ cond (is_accepted_changes is_changes a c && (s.current == i)) (length s.log) (session_at s i).seen
 seen_then i s c (Err e) = refl
-seen_then i s (Use name) (Ok done) = by (s.current == i) refl
-  where
-    by : (b : Bool) → (s.current == i) ≡ b → (cond b (using_scenario (current_session s) name) (session_at s i)).seen ≡ (session_at s i).seen
-    by true h = ap (λ (k : ℕ). (session_at s k).seen) (eqb-true s.current i h)
-    by false h = refl
+seen_then i s (Use name) (Ok done) =
+    cond_both (s.current == i) (using_scenario (current_session s) name) (session_at s i) (λ (x : Session). x.seen ≡ (session_at s i).seen)
+    (λ h. ap (λ (k : ℕ). (session_at s k).seen) (eqb-true s.current i h)) (λ h. refl)
 seen_then i s Changes (Ok done) = by (s.current == i)
   where
     by : (b : Bool) → (cond b (told (current_session s) (change_list s) (length s.log)) (session_at s i)).seen ≡ cond b (length s.log) (session_at s i).seen
@@ -225,11 +214,9 @@ seen_then i s c (Ok done) = refl
 picture_then : (i : ℕ) (s : State) (c : Command) (a : Answer)
     → (session_then i s c a).picture ≡ with_lists (session_at s i).picture (cond (is_accepted_changes is_changes a c && (s.current == i)) (change_list s ∷ []) [])
 picture_then i s c (Err e) = refl
-picture_then i s (Use name) (Ok done) = by (s.current == i) refl
-  where
-    by : (b : Bool) → (s.current == i) ≡ b → (cond b (using_scenario (current_session s) name) (session_at s i)).picture ≡ (session_at s i).picture
-    by true h = ap (λ (k : ℕ). (session_at s k).picture) (eqb-true s.current i h)
-    by false h = refl
+picture_then i s (Use name) (Ok done) =
+    cond_both (s.current == i) (using_scenario (current_session s) name) (session_at s i) (λ (x : Session). x.picture ≡ (session_at s i).picture)
+    (λ h. ap (λ (k : ℕ). (session_at s k).picture) (eqb-true s.current i h)) (λ h. refl)
 picture_then i s Changes (Ok done) = by (s.current == i) refl
   where
     by : (b : Bool) → (s.current == i) ≡ b

@@ -1,5 +1,5 @@
 -- That a desk is sound with a session more.
-use Rattle.wi_scenarios.proofs.Words.{◌≡◌, ℕ, suc, ◌+◌, ◌-◌, ◌*◌, ◌/◌, ◌%◌, ◌<◌, ◌≤◌, Bool, true, false, ◌||◌, ◌==◌, List, [], ◌∷◌, ◌++◌, length, None, refl, sym, ap, ◌∙◌, subst, arith, ◌⊎◌, inl, inr, codes, All, list_any, slice_index_or, position_or_len, keys_of, div-lt_iff_lt-mul, mod-lt, eqb-true, le-leb, cases_lt, false≢true, or_cases, get_or_append_left, length-append, All-head, All-tail, get_or-append_seam, any-filter_same, Area, is_within, row_of, column_of, rect_of, rows, columns, Sheet, content_of, has_formula, shown, IsMarking, shows_nothing, has_none, Stored, sheet_size, value_in, is_one_of, Replacement, Kept, effective, chain, Session, new_session, max_sessions, Roster, vacant_of, SameCells, Entry, Desk, State, state_over, occupied_cells, IsClosed, IsSound, state_of, and_from}
+use Rattle.wi_scenarios.proofs.Words.{◌≡◌, ℕ, ◌+◌, ◌-◌, ◌*◌, ◌/◌, ◌%◌, ◌<◌, ◌≤◌, Bool, true, false, ◌||◌, ◌==◌, List, [], ◌∷◌, ◌++◌, length, None, refl, sym, ap, ◌∙◌, subst, arith, ◌⊎◌, inl, inr, codes, All, Any-from_list_any, each_fails, list_any, slice_index_or, position_or_len, position_or_len_is, keys_of, div-lt_iff_lt-mul, mod-lt, eqb-true, le-leb, cases_lt, false≢true, or_cases, get_or_append_left, length-append, get_or-append_seam, any-filter_same, Area, is_within, row_of, column_of, rect_of, rows, columns, Sheet, content_of, has_formula, shown, IsMarking, shows_nothing, has_none, Stored, sheet_size, value_in, is_one_of, Replacement, Kept, effective, chain, Session, new_session, max_sessions, Roster, vacant_of, SameCells, Desk, State, state_over, occupied_cells, IsClosed, IsSound, state_of, and_from}
 
 -- ---- cells of the sheet
 
@@ -36,12 +36,9 @@ unoccupied s a l h =
 
 -- a cell of a list lies below its bound
 below_all : (n : ℕ) (xs : List ℕ) (c : ℕ) → All (λ a. a < n) xs → is_one_of xs c ≡ true → c < n
-below_all n [] c h e = absurd (false≢true e)
-below_all n (x ∷ xs) c h e = at (or_cases (x == c) (is_one_of xs c) e) (below_all n xs c (All-tail (λ a. a < n) x xs h))
-  where
-    at : ((x == c) ≡ true) ⊎ (is_one_of xs c ≡ true) → (is_one_of xs c ≡ true → c < n) → c < n
-    at (inl t) rest = subst (λ k. k < n) (eqb-true x c t) (All-head (λ a. a < n) x xs h)
-    at (inr m) rest = rest m
+below_all n xs c h e =
+    let k = Any-from_list_any (λ a. a == c) xs e in
+    subst (λ a. a < n) (k.3 ∙ eqb-true k.1 c k.4) (h k.0 k.1 k.2)
 
 -- a cell with a formula is occupied
 formula_occupied : (s : Sheet) (c : ℕ) → All (λ a. a < rows * columns) (keys_of s) → has_formula (content_of s c) ≡ true → is_one_of (occupied_cells s) c ≡ true
@@ -73,14 +70,9 @@ occupied_closed marked law s within a c h m = at (or_cases (has_formula (content
 
 -- a session that is none has the place behind all
 pub no_place : (p : Session → Bool) (xs : List Session) → list_any p xs ≡ false → position_or_len p xs ≡ length xs
-no_place p [] h = refl
-no_place p (x ∷ xs) h = by (p x) refl (no_place p xs)
-  where
-    by : (b : Bool) → p x ≡ b → (list_any p xs ≡ false → position_or_len p xs ≡ length xs) → position_or_len p (x ∷ xs) ≡ suc (length xs)
-    by true e rest = absurd (let k = sym (ap (λ (c : Bool). c || list_any p xs) e) ∙ h in cc)
-    by false e rest =
-        let m : position_or_len p xs ≡ length xs = rest (sym (ap (λ (c : Bool). c || list_any p xs) e) ∙ h) in
-        rw e (omega (arith, m))
+no_place p xs h =
+    let x = new_session [] in
+    position_or_len_is p xs (length xs) x (omega arith) (λ k l. each_fails p xs h k x l) (λ l. absurd (omega (arith, l)))
 
 -- ---- what holds of the desk
 
@@ -166,18 +158,12 @@ one_list (p ∷ q ∷ ps) h = absurd (omega (arith, h))
 
 -- a desk that begins
 pub first_state : (stored : Stored) (d : Desk) → d.scenarios ≡ [] → d.current ≡ 0 → d.sessions.sessions ≡ new_session (codes "main") ∷ [] → d.log ≡ [] → state_of stored d ≡ state_over stored
-first_state stored d none zeroth is empty =
-    ap (λ (xs : List Kept). record (state_of stored d) { scenarios = xs }) none
-    ∙ ap (λ (xs : List Session). record (state_of stored d) { scenarios = []; sessions = xs }) is
-    ∙ ap (λ (n : ℕ). record (state_over stored) { current = n; log = d.log }) zeroth
-    ∙ ap (λ (es : List Entry). record (state_over stored) { log = es }) empty
+first_state stored d none zeroth is empty = cc
 
 -- one session more, which is the current one
 pub grown_state : (s : State) (name : List ℕ) (after : List Session) (place : ℕ) → after ≡ s.sessions ++ new_session name ∷ [] → place ≡ length s.sessions
     → record s { sessions = after; current = place } ≡ record s { sessions = s.sessions ++ new_session name ∷ []; current = length s.sessions }
-grown_state s name after place more at =
-    ap (λ (xs : List Session). record s { sessions = xs; current = place }) more
-    ∙ ap (λ (n : ℕ). record s { sessions = s.sessions ++ new_session name ∷ []; current = n }) at
+grown_state s name after place more at = cc
 
 -- the first session
 pub sound_first : {marked : Sheet → List ℕ → ℕ → Bool} (stored : Stored) (d : Desk) (name cells : List ℕ) → d.scenarios ≡ [] → d.current ≡ 0 → d.sessions.sessions ≡ new_session name ∷ [] → length d.sessions.pending ≡ length d.sessions.sessions

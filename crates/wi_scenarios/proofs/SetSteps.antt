@@ -1,9 +1,9 @@
 -- The command `set`: its step, by what its body finds, and what a call leaves.
-use Rattle.wi_scenarios.proofs.Words.{◌≡◌, ◌↔◌, ℕ, Bool, true, false, ◌==◌, List, [], ◌∷◌, length, inl, inr, Some, map, ◌++◌, Result, Ok, Err, if◌then◌else◌, refl, sym, ap, ◌∙◌, subst, arith, list_any, nat_tests, Content, ParseFault, cell_area, State, max_area, Answer, parse_refusal, Edit, edit_answer, Command, Set, form, Cell, is_outside, address, cell, Put, Puts, Cause, BadCommand, TooLong, OutOfSheet, NumberRange, TooDeep, Syntax, LeavesSheet, Holds, lies_outside, is_missing, IsStep, IsFirstOf, IsContent, HasFault, IsAnsweredAs, IsFirstFault, faults, is_fault, one_content, IsPlaced, Option, IsErrAnd, Area, content_read, is_too_long, ReadsAs, content_is_one, Refusal, may_grow, Serves, take, drop, MayRefuse, ◌≤◌}
+use Rattle.wi_scenarios.proofs.Words.{◌≡◌, ◌↔◌, ℕ, Bool, true, false, ◌==◌, List, [], ◌∷◌, length, inl, inr, Some, map, ◌++◌, Result, Ok, Err, if◌then◌else◌, refl, sym, ap, ◌∙◌, subst, arith, list_any, or-false, both_ways, nat_tests, Content, ParseFault, cell_area, State, Answer, parse_refusal, Edit, edit_answer, Command, Set, form, Cell, is_outside, address, cell, Put, Puts, Cause, BadCommand, TooLong, OutOfSheet, NumberRange, TooDeep, Syntax, LeavesSheet, Holds, lies_outside, is_missing, IsStep, IsFirstOf, IsContent, HasFault, IsAnsweredAs, IsFirstFault, faults, is_fault, one_content, IsPlaced, Option, IsErrAnd, Area, content_read, is_too_long, ReadsAs, content_is_one, Refusal, may_grow, Serves, take, drop, MayRefuse}
 use Rattle.wi_parser.specs.declared.fault.ParseFault.TheVariants as parse
 use Rattle.wi_scenarios.specs.declared.refusal.Refusal.TheVariants as refusal
 use Rattle.wi_scenarios.proofs.CauseTests.{NoneHolds, both_none, behind_none}
-use Rattle.wi_scenarios.proofs.EditLemmas.{outside_first, last, edit_step, edit_grows, same_edit, front, none_forced, few_forced}
+use Rattle.wi_scenarios.proofs.EditLemmas.{outside_first, last, edit_step, edit_grows, same_edit, front, any_forced, none_forced, few_forced}
 use Rattle.wi_scenarios.proofs.CallLemmas.{serves_as, ends_so}
 
 -- ---- answers
@@ -23,6 +23,9 @@ set_answer s force at none r = if none then Err refusal.BadCommand else content_
 
 -- ---- the step
 
+pub set_outside : (force : Bool) (c : Cell) (text : List ℕ) → list_any lies_outside (form (Set force c text)) ≡ is_outside c
+set_outside force c text = any_forced lies_outside force _ refl ∙ or-false _
+
 module _ (s : State) (force : Bool) (c : Cell) (text : List ℕ) where
   pub one_puts : (q p : List Put) → Puts s (Set force c text) q → Puts s (Set force c text) p → q ≡ p
   one_puts q p h k =
@@ -32,13 +35,10 @@ module _ (s : State) (force : Bool) (c : Cell) (text : List ℕ) (inside : is_ou
   abbrev set : Command
   set = Set force c text
 
-  few : 1 ≤ max_area
-  few = omega arith
-
   module _ (some : Holds s BadCommand set → ⊥) where
     none_first : NoneHolds s set (take 9 front)
     none_first =
-        (λ k. k, (some, (λ k. k, (none_forced lies_outside force _ refl (rw inside refl), (few_forced force _ few, (none_forced (is_missing s) force _ refl refl, (λ k. k, (λ k. k, (λ k. k, tt)))))))))
+        (λ k. k, (some, (λ k. k, (λ k. both_ways _ (set_outside force c text ∙ inside) k, (few_forced force _ refl, (none_forced (is_missing s) force _ refl refl, (λ k. k, (λ k. k, (λ k. k, tt)))))))))
 
     module _ (content : Content) (is : IsContent text content) (no_fault : (e : ParseFault) → HasFault text e → ⊥) where
       put : Puts s set ((address c, Some content) ∷ [])
@@ -83,12 +83,8 @@ set_none s force c = (BadCommand, inr (λ h. h, inl (tt, refl)), refl)
 
 -- one that isn't, where the cell lies outside the sheet or not
 module _ (s : State) (force : Bool) (c : Cell) (b : ℕ) (bs : List ℕ) where
-  is_out : (f : Bool) → is_outside c ≡ true → list_any lies_outside (form (Set f c (b ∷ bs))) ≡ true
-  is_out true o = rw o refl
-  is_out false o = rw o refl
-
   pub set_some : (out : Bool) → is_outside c ≡ out → (r : Result Content ParseFault) → IsAnsweredAs (b ∷ bs) r → IsStep s (Set force c (b ∷ bs)) (if out then Err refusal.OutOfSheet else content_answer s force (address c) r)
-  set_some true o r is = outside_first s (Set force c (b ∷ bs)) (λ h. h) (λ h. h) (λ h. h) (is_out force o)
+  set_some true o r is = outside_first s (Set force c (b ∷ bs)) (λ h. h) (λ h. h) (λ h. h) (set_outside force c (b ∷ bs) ∙ o)
   set_some false o r is = by_content s force c (b ∷ bs) o (λ h. h) r is
 
 -- of a cell of the sheet

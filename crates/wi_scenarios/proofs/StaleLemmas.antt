@@ -1,5 +1,5 @@
 -- When an edit is refused for a stale cell.
-use Rattle.wi_scenarios.proofs.Words.{◌≡◌, ◌≢◌, ◌∙◌, ℕ, zero, suc, ◌+◌, ◌<◌, ◌≤◌, ◌⊎◌, inl, inr, Bool, true, false, ◌&&◌, List, [], ◌∷◌, ◌++◌, map, max, Option, Some, None, Ok, Err, refl, sym, ap, subst, arith, and_parts, and_from, both_ways, cases_eq, cases_lt, or_cases, false≢true, none-some, Area, is_within, within_between, Entry, is_within_one, first_stale, IsFirst, entries_in, is_wanted_of_others, only_first, stale_is_first, Refusal, State, Answer, Event, MayHappen, MayFollow, state_after, IsCoherent, is_changes, named_by, edits_since, unseen, is_newer, IsFirstNewer, counts_before, is_refused_before, StaleIsNewer, ForcedIsNotStale, Command, named, is_forced, Cause, Stale, Loop, Full, EditLimit, Holds, stale_cell, Tells, IsStep, causes, IsFirstOf, ◌↔◌, list_all, same_Some}
+use Rattle.wi_scenarios.proofs.Words.{◌≡◌, ◌≢◌, ◌∙◌, ℕ, zero, suc, ◌+◌, ◌<◌, ◌≤◌, ◌⊎◌, inl, inr, Bool, true, false, ◌&&◌, List, [], ◌∷◌, ◌++◌, map, max, Option, Some, None, Ok, Err, refl, sym, ap, subst, arith, and_parts, and_from, both_ways, cases_Bool, cases_eq, ⊎_elim, cases_lt, or_cases, false≢true, none-some, Area, is_within, within_between, Entry, is_within_one, first_stale, IsFirst, entries_in, is_wanted_of_others, only_first, stale_is_first, Refusal, State, Answer, Event, MayHappen, MayFollow, state_after, IsCoherent, is_changes, named_by, edits_since, unseen, is_newer, IsFirstNewer, counts_before, is_refused_before, StaleIsNewer, ForcedIsNotStale, Command, named, is_forced, Cause, Stale, Loop, Full, EditLimit, Holds, stale_cell, Tells, IsStep, causes, IsFirstOf, ◌↔◌, list_all, same_Some}
 use Rattle.wi_edit_log.specs.declared.edit.Edit.{Edit}
 use Rattle.wi_scenarios.specs.declared.refusal.Refusal.TheVariants as refusal
 use Rattle.wi_scenarios.proofs.CauseTests.{first_holds}
@@ -10,28 +10,16 @@ use Rattle.wi_scenarios.proofs.RunLemmas.{tells_and_logs}
 -- ---- the first stale cell
 
 -- there is a first below a bound, or none
-abbrev FirstBelow : (ℕ → Bool) → ℕ → Type 0
-FirstBelow test n = (a : ℕ) × (test a ≡ true) × ((b : ℕ) → test b ≡ true → a ≤ b)
-
-search_below : (test : ℕ → Bool) (n : ℕ) → FirstBelow test n ⊎ ((b : ℕ) → b < n → test b ≡ false)
-search_below test zero = inr (λ b l. absurd (omega (arith, l)))
-search_below test (suc n) = next (search_below test n)
+first_below : (test : ℕ → Bool) (n : ℕ) → ((a : ℕ) × IsFirst test (Some a)) ⊎ ((b : ℕ) → b < n → test b ≡ false)
+first_below test zero = inr (λ b l. absurd (omega (arith, l)))
+first_below test (suc n) = next (first_below test n)
   where
-    next : FirstBelow test n ⊎ ((b : ℕ) → b < n → test b ≡ false) → FirstBelow test (suc n) ⊎ ((b : ℕ) → b < suc n → test b ≡ false)
+    next : ((a : ℕ) × IsFirst test (Some a)) ⊎ ((b : ℕ) → b < n → test b ≡ false) → ((a : ℕ) × IsFirst test (Some a)) ⊎ ((b : ℕ) → b < suc n → test b ≡ false)
     next (inl f) = inl f
-    next (inr none) = by (test n) refl
-      where
-        first : (b : ℕ) → test b ≡ true → (b < n) ⊎ (n ≤ b) → n ≤ b
-        first b t (inl l) = absurd (both_ways (test b) (none b l) t)
-        first b t (inr l) = l
-
-        last : (b : ℕ) → test n ≡ false → b < suc n → (b ≡ n) ⊎ (b ≡ n → ⊥) → test b ≡ false
-        last b t l (inl e) = ap test e ∙ t
-        last b t l (inr m) = none b (omega (arith, l, m))
-
-        by : (c : Bool) → test n ≡ c → FirstBelow test (suc n) ⊎ ((b : ℕ) → b < suc n → test b ≡ false)
-        by true t = inl (n, t, λ b u. first b u (cases_lt b n))
-        by false t = inr (λ b l. last b t l (cases_eq b n))
+    next (inr none) = ⊎_elim
+        (λ (t : test n ≡ true). inl (n, record { passes = t; least = λ b u. ⊎_elim (λ (l : b < n). absurd (both_ways (test b) (none b l) u)) (λ (l : n ≤ b). l) (cases_lt b n) }))
+        (λ (t : test n ≡ false). inr (λ b l. ⊎_elim (λ (e : b ≡ n). ap test e ∙ t) (λ (m : b ≡ n → ⊥). none b (omega (arith, l, m))) (cases_eq b n)))
+        (cases_Bool (test n))
 
 -- cells in rectangles are below a bound
 bound : List Area → ℕ
@@ -60,18 +48,10 @@ abbrev is_wanted : List Entry → ℕ → List Area → ℕ → Bool
 is_wanted edits i named a = is_within_one named a && is_newer edits i a
 
 some_first : (edits : List Entry) (i : ℕ) (named : List Area) → (o : Option ℕ) × IsFirst (is_wanted edits i named) o
-some_first edits i named = by (search_below (is_wanted edits i named) (bound named))
-  where
-    by : FirstBelow (is_wanted edits i named) (bound named) ⊎ ((b : ℕ) → b < bound named → is_wanted edits i named b ≡ false)
-        → (o : Option ℕ) × IsFirst (is_wanted edits i named) o
-    by (inl f) = (Some f.0, record { passes = f.1; least = f.2 })
-    by (inr none) = (
-      None,
-      record {
-        passes = tt;
-        least = λ a t. both_ways (is_wanted edits i named a) (none a (is_below named a (and_parts (is_within_one named a) (is_newer edits i a) t).0)) t;
-      },
-    )
+some_first edits i named = elim (first_below (is_wanted edits i named) (bound named)) [
+  | inl f ↦ (Some f.0, f.1)
+  | inr none ↦ (None, record { passes = tt; least = λ a t. both_ways (is_wanted edits i named a) (none a (is_below named a (and_parts (is_within_one named a) (is_newer edits i a) t).0)) t })
+]
 
 least_stale : (edits : List Entry) (i : ℕ) (named : List Area) → IsFirst (is_wanted edits i named) (first_stale edits i 0 named)
 least_stale edits i named =

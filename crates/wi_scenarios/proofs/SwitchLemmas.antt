@@ -1,5 +1,6 @@
 -- That a switch to other scenarios keeps what sessions are shown.
-use Rattle.wi_scenarios.proofs.Words.{◌≡◌, ◌==◌, ℕ, ◌<◌, Bool, true, false, not, ◌||◌, ◌&&◌, List, [], ◌∷◌, length, get_or, refl, sym, ap, ◌∙◌, subst, arith, false≢true, nat_tests, Replacement, IsInOrder, replaced, Sheet, shown, IsMarking, outside_unmoved, last_in_order, is_one_of, Differs, AreDiffering, HasRoom, ◌≢◌, ◌⊎◌, inl, inr, ◌≤◌, Option, slice_index_or, slice_set, or-false, or_left, or_parts, or_cases, get_or-set_same, get_or-set_other, length-set, Value, Stored, Kept, effective, value_in, Session, new_session, max_sessions, using_scenario, Roster, session_at, pending_of, vacant_of, State, IsMarked, IsTouched, AddsOnly, SameForOthers, Desk, state_of, pending_in, AreCovered, AreClosed, IsSound, HasRoomFor, Ok, Err, AllocError, MakesSound, has_at}
+use Rattle.wi_scenarios.proofs.Words.{◌≡◌, ◌==◌, ℕ, ◌<◌, Bool, true, false, not, ◌||◌, ◌&&◌, List, [], length, get_or, refl, sym, ap, ◌∙◌, subst, arith, false≢true, and_parts, nil_from_length, nat_tests, Replacement, IsInOrder, replaced, Sheet, shown, IsMarking, outside_unmoved, last_in_order, is_one_of, Differs, AreDiffering, HasRoom, ◌≢◌, ◌⊎◌, inl, inr, ◌≤◌, Option, slice_index_or, slice_set, or-false, or_left, or_parts, or_cases, get_or-set_same, get_or-set_other, length-set, Value, Stored, Kept, effective, value_in, Session, new_session, max_sessions, using_scenario, Roster, session_at, pending_of, vacant_of, State, IsMarked, IsTouched, AddsOnly, SameForOthers, Desk, state_of, pending_in, AreCovered, AreClosed, IsSound, HasRoomFor, Ok, Err, AllocError, MakesSound, has_at}
+use Rattle.wi_scenarios.proofs.EditLemmas.{not_found, covers}
 
 -- ---- no replacement is another
 
@@ -7,10 +8,6 @@ use Rattle.wi_scenarios.proofs.Words.{◌≡◌, ◌==◌, ℕ, ◌<◌, Bool, t
 pub shown_alike : (s : Sheet) (p q : List Replacement) (c : ℕ) → IsInOrder p → IsInOrder q → ((a : ℕ) → replaced p a ≡ replaced q a) → shown s p c ≡ shown s q c
 shown_alike s p q c h k e =
     outside_unmoved s [] c refl s s p q (λ d n. refl) (λ d n. refl) (λ d n. last_in_order p h d ∙ e d ∙ sym (last_in_order q k d))
-
-none_listed : (xs : List ℕ) → length xs ≡ 0 → (a : ℕ) → is_one_of xs a ≡ false
-none_listed [] e a = refl
-none_listed (x ∷ xs) e a = absurd (omega (arith, e))
 
 -- where a list shows what another one shows, no room is wanted
 bare : (marked : Sheet → List ℕ → ℕ → Bool) (sheet : Sheet) (before after : List Replacement) (pending vacant : List ℕ)
@@ -24,23 +21,9 @@ bare marked sheet before after pending vacant empty same = record {
 pub none_differs : (marked : Sheet → List ℕ → ℕ → Bool) (sheet : Sheet) (before after : List Replacement) (cells pending vacant : List ℕ)
     → IsInOrder before → IsInOrder after → AreDiffering before after cells → length cells ≡ 0 → vacant ≡ [] → HasRoom marked sheet before after pending vacant
 none_differs marked sheet before after cells pending vacant first second found none empty =
-    bare marked sheet before after pending vacant empty (λ a. shown_alike sheet before after a first second (λ d. found.others d (none_listed cells none d)))
+    bare marked sheet before after pending vacant empty (λ a. shown_alike sheet before after a first second (λ d. found.others d (ap (λ (xs : List ℕ). is_one_of xs d) (nil_from_length cells none))))
 
 -- ---- some are
-
-both_true : (x y : Bool) → (false || (x && y)) ≡ true → x ≡ true
-both_true true y h = refl
-both_true false y h = h
-
--- what is told is pending or gets room
-told_has : (p v t : Bool) → v ≡ (false || (t && not p)) → t ≡ true → (p || v) ≡ true
-told_has true v t e h = refl
-told_has false v t e h = e ∙ ap (λ (b : Bool). false || (b && true)) h
-
-left_false : (x y : Bool) → (false || (x && not y)) ≡ false → y ≡ false → x ≡ false
-left_false true true h e = cc
-left_false true false h e = cc
-left_false false y h e = refl
 
 pub some_differ : (marked : Sheet → List ℕ → ℕ → Bool) (law : IsMarking marked) (sheet : Sheet) (before after : List Replacement) (cells told pending vacant vacant' : List ℕ)
     → IsInOrder before → IsInOrder after → AreDiffering before after cells → 0 < length cells → vacant ≡ []
@@ -54,17 +37,17 @@ some_differ marked law sheet before after cells told pending vacant vacant' firs
     touched = λ k d l. found.each (get_or cells k d) (has_at cells k (get_or cells k d) d l refl);
     has = it_is a h;
   };
-  further = λ a c h m. told_has (is_one_of pending c) (is_one_of vacant' c) (is_one_of told c) (now c) (marks c ∙ law.further sheet cells a c (it_is a h) m);
+  further = λ a c h m. covers (is_one_of pending c) (is_one_of pending c) (is_one_of vacant' c) (is_one_of told c) refl (now c) (marks c ∙ law.further sheet cells a c (it_is a h) m);
   others = λ a h k.
-      law.unmoved sheet cells a (sym (marks a) ∙ left_false (is_one_of told a) (is_one_of pending a) (sym (now a) ∙ k) h) sheet sheet before after (λ d n. refl) (λ d n. refl)
+      law.unmoved sheet cells a (sym (marks a) ∙ not_found (is_one_of vacant' a) (is_one_of told a) (is_one_of pending a) (now a) h k) sheet sheet before after (λ d n. refl) (λ d n. refl)
       (λ d n. last_in_order before first d ∙ found.others d n ∙ sym (last_in_order after second d));
 }
   where
-    now : (a : ℕ) → is_one_of vacant' a ≡ (false || (is_one_of told a && not (is_one_of pending a)))
+    now : (a : ℕ) → is_one_of vacant' a ≡ (is_one_of told a && not (is_one_of pending a))
     now a = room a ∙ ap (λ (xs : List ℕ). is_one_of xs a || (is_one_of told a && not (is_one_of pending a))) empty
 
     it_is : (a : ℕ) → is_one_of vacant' a ≡ true → marked sheet cells a ≡ true
-    it_is a h = sym (marks a) ∙ both_true (is_one_of told a) (not (is_one_of pending a)) (sym (now a) ∙ h)
+    it_is a h = sym (marks a) ∙ (and_parts (is_one_of told a) (not (is_one_of pending a)) (sym (now a) ∙ h)).0
 
 -- the same of lists as they are lent
 pub room_marked : (marked : Sheet → List ℕ → ℕ → Bool) (law : IsMarking marked) (sheet : Sheet) (before after : List Replacement) (cells lent found told pending vacant vacant' : List ℕ)

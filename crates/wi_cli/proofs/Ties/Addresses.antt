@@ -1,5 +1,5 @@
 -- The words that spell a cell or a rectangle, and as which they are read.
-use Rattle.wi_cli.proofs.Vocabulary.{◌≡◌, ℕ, suc, ◌+◌, ◌-◌, ◌*◌, ◌<◌, Bool, true, false, ◌&&◌, ◌||◌, not, nat_lt, nat_le, ◌==◌, [], ◌∷◌, ◌++◌, take, drop, length, Option, Some, None, Err, ok_or, if◌then◌else◌, refl, sym, ap, ap₂, ◌∙◌, subst, arith, rules, tests, and_parts, take-append_seam, drop-append_seam, nat_tests, take-append-drop, both_ways, length-prefix_len, is_ascii_alphabetic, is_ascii_digit, digit_value, list_all, prefix_len, all_ascii_digits, digits_value, digits_value_after, columns, rows, place, letters_value, is_row_number, cell_at, address_at, read_address, Shape, letters_above_zero, scan, no_letters, Cell, is_outside, address, IsAddr, addr, Bytes, spelled_cell, read_by, read_any, SameAddr, cond, get_or, Result, append_assoc, append-nil, length-append, codes, list_all-append, split_at_first, passes_at_first, position_or_len, byte, rect_of, read_rect, corners, AddressFault, CornerCells, IsRect, a_cell, two_cells, both, spelled_corners, spelled_rect, read_any_area, SameRect, position, eqb-true, none-some, same_Some}
+use Rattle.wi_cli.proofs.Vocabulary.{◌≡◌, ℕ, suc, ◌+◌, ◌-◌, ◌*◌, ◌<◌, Bool, true, false, ◌&&◌, ◌||◌, not, nat_lt, nat_le, ◌==◌, [], ◌∷◌, ◌++◌, take, drop, length, Option, Some, None, Err, ok_or, if◌then◌else◌, refl, sym, ap, ap₂, ◌∙◌, subst, arith, rules, tests, and_parts, take-append_seam, drop-append_seam, nat_tests, take-append-drop, both_ways, cond_both, length-prefix_len, is_ascii_alphabetic, is_ascii_digit, digit_value, list_all, prefix_len, all_ascii_digits, digits_value, digits_value_after, columns, rows, place, letters_value, is_row_number, cell_at, address_at, read_address, Shape, letters_above_zero, scan, no_letters, Cell, is_outside, address, IsAddr, addr, Bytes, spelled_cell, read_by, read_any, SameAddr, cond, get_or, Result, append_assoc, append-nil, length-append, codes, list_all-append, split_at_first, passes_at_first, position_or_len, byte, rect_of, read_rect, corners, AddressFault, CornerCells, IsRect, a_cell, two_cells, both, spelled_corners, spelled_rect, read_any_area, SameRect, position, eqb-true, none-some, same_Some}
 use Rattle.wi_values.specs.declared.address.AddressFault.TheVariants.{Outside}
 use Rattle.wi_values.specs.AddressReading.{read_corners as read_at_colon}
 
@@ -32,14 +32,10 @@ spelled word c (addr ls ds d some letters digits column row) =
 
 front_letters : (bs : Bytes) → list_all is_ascii_alphabetic (take (prefix_len is_ascii_alphabetic bs) bs) ≡ true
 front_letters [] = refl
-front_letters (b ∷ bs) = by (is_ascii_alphabetic b) refl (front_letters bs)
-  where
-    by : (p : Bool) → is_ascii_alphabetic b ≡ p → list_all is_ascii_alphabetic (take (prefix_len is_ascii_alphabetic bs) bs) ≡ true
-        → list_all is_ascii_alphabetic (take (prefix_len is_ascii_alphabetic (b ∷ bs)) (b ∷ bs)) ≡ true
-    by false e more = rw e refl
-    by true e more =
-        let n : 1 + prefix_len is_ascii_alphabetic bs ≡ suc (prefix_len is_ascii_alphabetic bs) = omega arith in
-        rw (e, n) (rw (e, more) refl)
+front_letters (b ∷ bs) =
+    let n : 1 + prefix_len is_ascii_alphabetic bs ≡ suc (prefix_len is_ascii_alphabetic bs) = omega arith in
+    cond_both (is_ascii_alphabetic b) (1 + prefix_len is_ascii_alphabetic bs) 0 (λ k. list_all is_ascii_alphabetic (take k (b ∷ bs)) ≡ true)
+    (λ e. rw n (rw e (front_letters bs))) (λ e. refl)
 
 front_length : (bs : Bytes) → length (take (prefix_len is_ascii_alphabetic bs) bs) ≡ prefix_len is_ascii_alphabetic bs
 front_length bs = length-prefix_len is_ascii_alphabetic bs
@@ -192,14 +188,16 @@ rect_spelled word r (two_cells v w c d h k) = ap spelled_rect (append_assoc v (5
 
 -- ---- a word that is read
 
-both_cells : (o p : Option Cell) (r : CornerCells) → both o p ≡ Some r → (o ≡ Some r.0) × (p ≡ Some r.1)
-both_cells (Some c) (Some d) r e = (cc, cc)
-both_cells (Some c) None r e = cc
-both_cells None p r e = cc
+pub both_parts : {X Y : Type 0} (o : Option X) (p : Option Y) (v : X × Y) → both o p ≡ Some v → (o ≡ Some v.0) × (p ≡ Some v.1)
+both_parts {X} {Y} (Some x) (Some y) v e =
+    let same : (x, y) ≡ v = same_Some (x, y) v e in
+    (ap (λ (z : X × Y). Some z.0) same, ap (λ (z : X × Y). Some z.1) same)
+both_parts {X} {Y} (Some x) None v e = absurd (none-some v e)
+both_parts {X} {Y} None p v e = absurd (none-some v e)
 
 spells_at : (word : Bytes) (r : CornerCells) → spelled_rect word ≡ Some r → (b : Bool) → nat_lt (position_or_len is_colon word) (length word) ≡ b → IsRect word r
 spells_at word r h false e =
-    let k = both_cells _ _ r (sym (by_colon word false e) ∙ h) in
+    let k = both_parts _ _ r (sym (by_colon word false e) ∙ h) in
     let one : r.0 ≡ r.1 = let same : ◌≡◌ {A = Option Cell} (Some r.0) (Some r.1) = sym k.0 ∙ k.1 in cc in
     subst (λ (d : Cell). IsRect word (r.0, d)) one (a_cell word r.0 ((same_addr word).spells r.0 k.0))
 spells_at word r h true e =
@@ -207,7 +205,7 @@ spells_at word r h true e =
     let front : Bytes = take n word in
     let back : Bytes = drop (n + 1) word in
     let inside : n < length word = grind (arith, nat_tests) in
-    let k = both_cells (spelled_cell front) (spelled_cell back) r (sym (by_colon word true e) ∙ h) in
+    let k = both_parts (spelled_cell front) (spelled_cell back) r (sym (by_colon word true e) ∙ h) in
     let colon : get_or word n 0 ≡ 58 = eqb-true _ _ (passes_at_first is_colon word 0 inside) in
     let parts : (front ++ codes ":") ++ back ≡ word =
     append_assoc front (58 ∷ []) back ∙ ap (λ (b : ℕ). front ++ (b ∷ back)) (sym colon) ∙ sym (split_at_first is_colon word 0 inside) in

@@ -134,8 +134,7 @@ onto None cs = refl
 onto (Some c) cs = refl
 
 pub alone : (o : Option Command) → cons_option o [] ≡ option_to_list o
-alone None = refl
-alone (Some c) = refl
+alone o = onto o [] ∙ append-nil (option_to_list o)
 
 none_taken : (line : Bytes) (taken : List Bytes) → asked line ≡ length taken → csv_line (without_lf line) ≡ None → taken ≡ []
 none_taken line taken e plain = nil_from_length taken (sym e ∙ ap (λ (x : Option CsvLine). lines_of x) plain)

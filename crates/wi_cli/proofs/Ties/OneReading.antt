@@ -1,5 +1,5 @@
 -- Lines have no other commands than those that they are read as.
-use Rattle.wi_cli.proofs.Vocabulary.{◌≡◌, ℕ, ◌-◌, ◌<◌, Bool, true, false, not, ◌||◌, nat_lt, cond, List, [], ◌∷◌, ◌++◌, length, filter, filter_map, inl, inr, Option, Some, None, if◌then◌else◌, refl, sym, ap, ap₂, ◌∙◌, subst, arith, codes, cons_option, is_utf8, IsUtf8-from_is_utf8, is_utf8-from_IsUtf8, le-ltb, both_ways, without_lf, max_line, Bytes, csv_text, Block, lines_of, blocks, is_complete, block_command, spelled_command, Cell, IsWritten, Command, Csv, Unknown, Unreadable, form, line_text, IsGood, is_passed_over, IsCommand, asked, line_block, blocks_that_count, commands_of, AreCommands}
+use Rattle.wi_cli.proofs.Vocabulary.{◌≡◌, ℕ, ◌-◌, ◌<◌, Bool, true, false, cond, List, [], ◌∷◌, ◌++◌, length, filter, filter_map, inl, inr, Option, Some, None, if◌then◌else◌, refl, sym, ap, ap₂, ◌∙◌, subst, arith, codes, cons_option, IsUtf8-from_is_utf8, is_utf8-from_IsUtf8, le-ltb, both_ways, false_from_ne_true, true_from_ne_false, without_lf, Bytes, csv_text, Block, lines_of, blocks, is_complete, block_command, spelled_command, Cell, IsWritten, Command, Csv, Unknown, Unreadable, form, line_text, IsGood, is_passed_over, IsCommand, asked, line_block, blocks_that_count, commands_of, AreCommands}
 use Rattle.wi_cli.specs.Script.{none as no_commands, a_line as line_with, cut_short as line_cut}
 use Rattle.wi_cli.proofs.LineLemmas.{whole_block, one_block}
 use Rattle.wi_cli.proofs.Ties.Texts.{Takes, AsksOrNot, it_asks, it_asks_none, asks_or_not, asked_is, csv_line_by, it_is_read, TextReads, text_or, is_plain, said, not_passed, Reads, spells, spells_none, reads}
@@ -39,16 +39,9 @@ module _ (line : Bytes) (taken : List Bytes) where
   is_unknown g p nothing (inr bad) (spells_none unread) = plain_is g bad false p ∙ ap (λ (x : Command). Some x) unread
 
   is_unreadable : (IsGood line → ⊥) → AsksOrNot line → read ≡ Some Unreadable
-  is_unreadable bad (it_asks force o n within h) = by (is_utf8 (line_text line)) refl
-    where
-      by : (b : Bool) → is_utf8 (line_text line) ≡ b → read ≡ Some Unreadable
-      by true e = absurd (bad (within, IsUtf8-from_is_utf8 (line_text line) e))
-      by false e = csv_line_is line taken force o n (it_is_read line force o n within h) false e
-  is_unreadable bad (it_asks_none e) = by (nat_lt max_line (length (without_lf line)) || not (is_utf8 (line_text line))) refl
-    where
-      by : (b : Bool) → (nat_lt max_line (length (without_lf line)) || not (is_utf8 (line_text line))) ≡ b → read ≡ Some Unreadable
-      by true f = plain_line line taken e ∙ line_by (without_lf line) true f
-      by false f = absurd (bad (good line f))
+  is_unreadable bad (it_asks force o n within h) =
+      csv_line_is line taken force o n (it_is_read line force o n within h) false (false_from_ne_true _ (λ e. bad (within, IsUtf8-from_is_utf8 (line_text line) e)))
+  is_unreadable bad (it_asks_none e) = plain_line line taken e ∙ line_by (without_lf line) true (true_from_ne_false _ (λ f. bad (good line f)))
 
   is_csv : (force : Bool) (o : Option Cell) (n : ℕ) (lines : List Bytes) → IsGood line → IsWritten (line_text line) (form (Csv force o n [])) → lines ≡ taken → read ≡ Some (Csv force o n lines)
   is_csv force o n lines g h e =

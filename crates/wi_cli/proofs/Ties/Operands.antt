@@ -1,5 +1,5 @@
 -- Cells and rectangles as they are read, and the commands that have them.
-use Rattle.wi_cli.proofs.Vocabulary.{◌≡◌, ◌<◌, ℕ, false, Result, ap₂, arith, nat_tests, ◌||◌, Area, AddressFault, columns, row_of_place, column_of_place, Cell, CornerCells, is_outside, address, area, read_by, Bool, cell, ◌*◌, min, max, true, not, ◌&&◌, ◌==◌, nat_lt, List, [], ◌∷◌, Option, Some, None, if◌then◌else◌, refl, sym, ap, ◌∙◌, subst, list_any, result_err, or_parts, both_ways, or-false, row_of, column_of, size_of, Shape, State, max_area, is_column, is_row, of_operand, worse, line_fault, unless_refused, table_of_one, table_of_two, lies_outside, form, Answer, Ok, ◌++◌, or-true, Reading, IsReadAs, IsStep, placed, second_input, cells_asked, has_row, entries, IsTablePlaced, placed_again, spanned_again, is_misshaped, addresses, table_step, table_by, no_other, Bytes, lacks, Command, cleared, clear_outside, clear_step, clear_of, fill_edit, leaves, filled_by, fill_outside, fill_step, area_answer, shown_in, show_step, show_of, exported_in, export_step, export_of_area, compared_in, compare_step, compare_of}
+use Rattle.wi_cli.proofs.Vocabulary.{◌≡◌, ◌<◌, ℕ, false, Result, ap₂, arith, nat_tests, ◌||◌, Area, AddressFault, columns, row_of_place, column_of_place, Cell, CornerCells, is_outside, address, area, read_by, Bool, cell, ◌*◌, min, max, true, not, ◌&&◌, ◌==◌, nat_lt, List, [], ◌∷◌, Option, Some, None, if◌then◌else◌, refl, sym, ap, ◌∙◌, subst, list_any, result_err, or_parts, both_ways, or-false, row_of, column_of, size_of, Shape, State, max_area, is_column, is_row, of_operand, worse, line_fault, unless_refused, table_of_one, table_of_two, lies_outside, form, Answer, Ok, ◌++◌, or-true, Reading, IsReadAs, IsStep, placed, second_input, cells_asked, has_row, entries, IsTablePlaced, once, placed_again, spanned_again, set_outside, is_misshaped, addresses, table_step, table_by, no_other, lacks, Command, cleared, clear_outside, clear_step, clear_of, fill_edit, leaves, filled_by, fill_outside, fill_step, area_answer, shown_in, show_step, show_of, exported_in, export_step, export_of_area, compared_in, compare_step, compare_of}
 use Rattle.wi_scenarios.specs.Commands.Command.{Set, Clear, Fill, Scenario, Show, Export, Compare, Table, Formula}
 use Rattle.wi_values.specs.declared.address.AddressFault.TheVariants.{Outside as AtOutside}
 use Rattle.wi_scenarios.specs.Commands.Operands.{corners}
@@ -125,10 +125,6 @@ has_shape front back = shape_first (front ++ (Some Shape ∷ back)) (by front)
 
 -- ---- columns and rows
 
--- a number of cells, as a product
-once : (n : ℕ) → n ≡ n * 1
-once n = omega arith
-
 abbrev pub is_large : CornerCells → Bool
 is_large r = nat_lt max_area (size_of (area r))
 
@@ -244,7 +240,7 @@ module _ (f r : Cell) (xs : CornerCells) where
       table_placed (Some y) (record { formula_cell = placed_again f k.0; input = placed_again r k.1; column = spanned_again xs k.2; second = (placed_again y.0 l.0, spanned_again y.1 l.1) })
       (ap₂ (λ (a b : Bool). not a || not b) (column_is xs k.2) (row_is y.1 l.1)
       ∙ ap₂ (λ (a b : Bool). (not a && not (xs.0.column == xs.1.column)) || (not b && not (y.1.0.row == y.1.1.row))) (sym k.2) (sym l.1))
-      (ap (λ (n : ℕ). nat_lt max_area (size_of (area xs) * n)) (once (size_of (area y.1)))) s e a h
+      (ap (λ (n : ℕ). nat_lt max_area (size_of (area xs) * n)) (sym (once (size_of (area y.1))))) s e a h
 
 -- ---- where its operands lie in the sheet a command has the answers of the one that is read
 
@@ -253,12 +249,8 @@ module _ (s : State) where
   same_answer : (c d : Command) (found : Answer) → IsStep s c found → IsStep s d found → (a : Answer) → IsStep s d a → IsStep s c a
   same_answer c d found h k a l = subst (IsStep s c) (no_other s d found a k l) h
 
-  set_in : (f : Bool) (at : Cell) (text : Bytes) → list_any lies_outside (form (Set f at text)) ≡ false → is_outside at ≡ false
-  set_in true at text e = (or_parts (is_outside at) false e).0
-  set_in false at text e = (or_parts (is_outside at) false e).0
-
   pub spans : (c : Command) → list_any lies_outside (form c) ≡ false → (a : Answer) → IsStep s (placed c) a → IsStep s c a
-  spans (Set force at text) e a h = subst (λ (x : Cell). IsStep s (Set force x text) a) (cell_again at (set_in force at text e)) h
+  spans (Set force at text) e a h = subst (λ (x : Cell). IsStep s (Set force x text) a) (cell_again at (sym (set_outside force at text) ∙ e)) h
   spans (Clear force r) e a h =
       let o : lies_out r ≡ false = sym (clear_outside force (lies_out r) r refl) ∙ e in
       same_answer (Clear force r) (Clear force (corners (area r))) (cleared s force (area r)) (clear_step s force r false o) (clear_of s force (area r) (spanned_again r o)) a h
@@ -281,7 +273,6 @@ module _ (s : State) where
       let lacking = lacks s.scenarios p || lacks s.scenarios q in
       same_answer (Compare p q r) (Compare p q (corners (area r))) (area_answer false (is_large r) lacking (compared_in s r p q (area r))) (compare_step s r false (is_large r) o refl p q lacking refl)
       (compare_of s (area r) (spanned_again r o) (is_large r) refl p q lacking refl) a h
-  spans (Table f r xs None) e a h = table_spans f r xs None s e a h
-  spans (Table f r xs (Some y)) e a h = table_spans f r xs (Some y) s e a h
+  spans (Table f r xs y) e a h = table_spans f r xs y s e a h
   spans (Formula at) e a h = subst (λ (x : Cell). IsStep s (Formula x) a) (cell_again at (or_parts (is_outside at) false e).0) h
   spans c e a h = h

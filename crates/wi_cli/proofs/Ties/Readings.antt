@@ -1,5 +1,5 @@
 -- As what the operands behind a name are read, and the command that they spell.
-use Rattle.wi_cli.proofs.Vocabulary.{◌≡◌, Bool, Err, None, Ok, Option, Result, Some, [], ap, arith, false, if◌then◌else◌, inl, inr, length, option_map, refl, subst, sym, true, ℕ, ◌==◌, ◌||◌, ◌∙◌, ◌∷◌, or-false, nat_tests, list_any, result_err, fill_of, A_NAME, END, MAYBE, Reading, is_all_spaces, line_fault, of_name, of_operand, read_any, read_any_area, read_by, read_side, spelled_cell, spelled_rect, IsRead, IsReadAs, IsReading, table_of_one, table_of_two, Bytes, after_word, first_word, lacks, BadCommand, BadLine, lies_outside, Command, Unknown, Unreadable, Cell, CornerCells, is_outside, IsStep, State, Refusal, Area, is_column, is_row, read_address, read_rect, read_name, AddressFault, Shape, made, spelled, at_end, both, form, address, area, Values, AND, A_CELL, A_RECT, name_or_none, only_name, table_behind, cell, outside_first, set_none, clear_outside, clear_step, fill_outside, fill_out, show_step, export_step, compare_step, Verb, form_of, ReadCommand}
+use Rattle.wi_cli.proofs.Vocabulary.{◌≡◌, Bool, Err, None, Ok, Option, Result, Some, [], ap, arith, false, if◌then◌else◌, inl, inr, length, option_map, refl, subst, sym, true, ℕ, ◌==◌, ◌||◌, ◌∙◌, ◌∷◌, or-false, nat_tests, result_err, fill_of, A_NAME, END, MAYBE, Reading, is_all_spaces, line_fault, of_name, of_operand, read_any, read_any_area, read_by, read_side, spelled_cell, spelled_rect, IsRead, IsReadAs, IsReading, table_of_one, table_of_two, Bytes, after_word, first_word, lacks, BadCommand, BadLine, Command, Unknown, Unreadable, Cell, CornerCells, is_outside, IsStep, State, Refusal, Area, is_column, is_row, read_address, read_rect, read_name, AddressFault, Shape, made, spelled, at_end, both, address, area, Values, AND, A_CELL, A_RECT, name_or_none, only_name, table_behind, cell, outside_first, set_none, set_outside, clear_outside, clear_step, fill_outside, fill_out, show_step, export_step, compare_step, Verb, form_of, ReadCommand}
 use Rattle.wi_scenarios.specs.Commands.Command.{Set, Clear, Fill, Scenario, Drop, Base, Use, As, Show, Export, Changes, Compare, Formula}
 use Rattle.wi_cli.specs.Inner.Forms.{SET, CLEAR, FILL, SCENARIO, DROP, BASE, USE, AS, SHOW, EXPORT, CHANGES, COMPARE, TABLE, FORMULA}
 use Rattle.wi_scenarios.specs.declared.refusal.Refusal.TheVariants as refusal
@@ -66,10 +66,6 @@ by_formula false (Some c) = unknown
 by_formula true (Some c) = of_read (λ c. Formula c) c cell (address c) (is_outside c) (λ o s. outside_first s (Formula c) (λ h. h) (λ h. h) (λ h. h) (or-false _ ∙ o)) (λ o. (or-false _ ∙ o, refl))
 by_formula b o = unknown
 
-set_out : (force b : Bool) (c : Cell) (text : Bytes) → is_outside c ≡ b → list_any lies_outside (form (Set force c text)) ≡ b
-set_out true b c text e = or-false _ ∙ e
-set_out false b c text e = or-false _ ∙ e
-
 by_set : (force : Bool) (t : Bytes) (o : Option Cell) → IsReadAs (made (both o (Some t)) (λ v. Set force v.0 v.1)) (if length t == 0 then Err refusal.BadCommand else of_operand (read_any o) (λ at. Ok (Set force (cell at) t)))
 by_set force [] None = unknown
 by_set force [] (Some c) = λ s. set_none s force c
@@ -80,7 +76,7 @@ by_set force (x ∷ xs) o =
     full : (o : Option Cell) → IsReadAs (made (both o (Some (x ∷ xs))) (λ v. Set force v.0 v.1)) (of_operand (read_any o) (λ at. Ok (Set force (cell at) (x ∷ xs))))
     full None = unknown
     full (Some c) =
-        of_read (λ c. Set force c (x ∷ xs)) c cell (address c) (is_outside c) (λ o s. outside_first s (Set force c (x ∷ xs)) (λ h. h) (λ h. h) (λ h. h) (set_out force true c (x ∷ xs) o)) (λ o. (set_out force false c (x ∷ xs) o, refl))
+        of_read (λ c. Set force c (x ∷ xs)) c cell (address c) (is_outside c) (λ o s. outside_first s (Set force c (x ∷ xs)) (λ h. h) (λ h. h) (λ h. h) (set_outside force c (x ∷ xs) ∙ o)) (λ o. (set_outside force c (x ∷ xs) ∙ o, refl))
 
 by_scenario : (t : Bytes) (n : Option Bytes) (o : Option Cell) → IsReadAs (made (both n (both o (Some t))) (λ v. Scenario v.0 v.1.0 v.1.1)) (of_name n (λ name. of_operand (read_any o) (λ at. Ok (Scenario name (cell at) t))))
 by_scenario t (Some name) (Some c) =

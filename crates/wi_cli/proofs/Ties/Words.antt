@@ -1,6 +1,6 @@
 -- Words one after another, what they are read as, and what they spell.
-use Rattle.wi_cli.proofs.Vocabulary.{◌≡◌, ℕ, suc, ◌≤◌, ◌+◌, Bool, true, false, ◌&&◌, not, nat_lt, nat_le, cond, [], ◌∷◌, length, take, ◌⊎◌, inl, inr, Option, Some, None, option_map, if◌then◌else◌, refl, sym, ap, ◌∙◌, subst, arith, codes, bytes_eq, prefix_len, before_first, after_first, all_ascii_digits, digits_value, nat_tests, bytes_eq-Decides, le-leb, leb-true, and_parts, both_ways, is_name, read_name, is_space, skip_spaces, first_word, after_word, Bytes, read_side, is_all_spaces, read_lines, IsSpelled, SIDE, LINES, List, ap₂, both, spelled_cell, spelled_rect, Kind, A_CELL, A_RECT, A_NAME, A_SESSION, A_SIDE, Words, END, TEXT, AND, MAYBE, Value, Values, read_word, read_words, Operand, ADDR, RECT, NAME, SESSION, CONTENT, IsWritten, none-some, same_Some, and_from}
-use Rattle.wi_cli.proofs.Ties.Addresses.{same_addr, same_rect}
+use Rattle.wi_cli.proofs.Vocabulary.{◌≡◌, ℕ, suc, ◌≤◌, ◌+◌, Bool, true, false, ◌&&◌, not, nat_lt, nat_le, cond, [], ◌∷◌, length, take, ◌⊎◌, inl, inr, Option, Some, None, option_map, if◌then◌else◌, refl, sym, ap, ◌∙◌, subst, arith, codes, bytes_eq, prefix_len, before_first, after_first, all_ascii_digits, digits_value, nat_tests, bytes_eq-Decides, le-leb, leb-true, and_parts, both_ways, false_from_ne_true, true_from_ne_false, is_name, read_name, is_space, skip_spaces, first_word, after_word, Bytes, read_side, is_all_spaces, read_lines, IsSpelled, SIDE, LINES, List, ap₂, both, spelled_cell, spelled_rect, Kind, A_CELL, A_RECT, A_NAME, A_SESSION, A_SIDE, Words, END, TEXT, AND, MAYBE, Value, Values, read_word, read_words, Operand, ADDR, RECT, NAME, SESSION, CONTENT, IsWritten, none-some, same_Some, and_from}
+use Rattle.wi_cli.proofs.Ties.Addresses.{both_parts, same_addr, same_rect}
 
 -- ---- options
 
@@ -24,13 +24,10 @@ spells_name word name e = by (is_name word) refl
 -- a scenario's name, or `-`
 pub side_read : (word : Bytes) (p : Option Bytes) → IsSpelled word (SIDE p) → read_side word ≡ Some p
 side_read word None h = ap read_side h
-side_read word (Some name) h = by (bytes_eq word (codes "-")) refl
-  where
-    by : (b : Bool) → bytes_eq word (codes "-") ≡ b → read_side word ≡ Some (Some name)
-    by true e = absurd (both_ways (is_name (codes "-")) refl (ap is_name (sym (is_word word (codes "-") e) ∙ h.0) ∙ h.1))
-    by false e =
-        ap (λ (b : Bool). if b then Some None else option_map (λ (n : Bytes). Some n) (read_name word)) e
-        ∙ ap (option_map (λ (n : Bytes). Some n)) (name_read word name h.0 h.1)
+side_read word (Some name) h =
+    let other : bytes_eq word (codes "-") ≡ true → ⊥ = λ e. both_ways (is_name (codes "-")) refl (ap is_name (sym (is_word word (codes "-") e) ∙ h.0) ∙ h.1) in
+    ap (λ (b : Bool). if b then Some None else option_map (λ (n : Bytes). Some n) (read_name word)) (false_from_ne_true (bytes_eq word (codes "-")) other)
+    ∙ ap (option_map (λ (n : Bytes). Some n)) (name_read word name h.0 h.1)
 
 pub spells_side : (word : Bytes) (p : Option Bytes) → read_side word ≡ Some p → IsSpelled word (SIDE p)
 spells_side word p e = by (bytes_eq word (codes "-")) refl (read_name word) refl
@@ -85,9 +82,6 @@ no_skip (b ∷ bs) e =
 pub no_word : (t : Bytes) → is_all_spaces t ≡ true → first_word t ≡ []
 no_word t e = ap (before_first is_space) (no_skip t e)
 
-no_cons : (b : ℕ) (bs : Bytes) → b ∷ bs ≡ [] → ⊥
-no_cons b bs e = cc
-
 -- no word is followed by none
 pub none_behind : (t : Bytes) → first_word t ≡ [] → after_word t ≡ []
 none_behind [] e = refl
@@ -103,7 +97,7 @@ none_behind (b ∷ bs) e = by (is_space b) refl (none_behind bs)
         let front : before_first is_space (b ∷ bs) ≡ b ∷ take (prefix_len (λ x. not (is_space x)) bs) bs =
         ap (λ (v : Bool). take (cond (not v) (1 + prefix_len (λ x. not (is_space x)) bs) 0) (b ∷ bs)) s ∙ ap (λ (k : ℕ). take k (b ∷ bs)) one in
         let none : b ∷ take (prefix_len (λ x. not (is_space x)) bs) bs ≡ [] = sym front ∙ sym (ap (before_first is_space) skip) ∙ e in
-        absurd (no_cons _ _ none)
+        absurd cc
 
 -- ---- words one after another, by what they spell
 
@@ -153,21 +147,13 @@ module _ (text : Bytes) (os : List Operand) where
   joined A_CELL x h t = (h, t)
   joined k x h t = (h, t)
 
-both_parts : {X Y : Type 0} (o : Option X) (p : Option Y) (v : X × Y) → both o p ≡ Some v → (o ≡ Some v.0) × (p ≡ Some v.1)
-both_parts {X} {Y} (Some x) (Some y) v e =
-    let same : (x, y) ≡ v = same_Some (x, y) v e in
-    (ap (λ (z : X × Y). Some z.0) same, ap (λ (z : X × Y). Some z.1) same)
-both_parts {X} {Y} (Some x) None v e = absurd (none-some v e)
-both_parts {X} {Y} None p v e = absurd (none-some v e)
-
 some_of : {X : Type 0} (o v : Option X) → option_map (λ x. Some x) o ≡ Some v → (x : X) × (o ≡ Some x) × (v ≡ Some x)
 some_of {X} None v e = absurd (none-some v e)
 some_of {X} (Some x) v e = (x, refl, sym (same_Some (Some x) v e))
 
 -- the first word spells something, so not all is spaces
-some_word : (k : Kind) (x : Value k) (text : Bytes) → read_word k (first_word text) ≡ Some x → (b : Bool) → is_all_spaces text ≡ b → b ≡ false
-some_word k x text h true e = absurd (none-some x (sym (ap (read_word k) (no_word text e) ∙ none_read k) ∙ h))
-some_word k x text h false e = refl
+some_word : (k : Kind) (x : Value k) (text : Bytes) → read_word k (first_word text) ≡ Some x → is_all_spaces text ≡ false
+some_word k x text h = false_from_ne_true (is_all_spaces text) (λ e. none-some x (sym (ap (read_word k) (no_word text e) ∙ none_read k) ∙ h))
 
 pub words_read : (ws : Words) (text : Bytes) (v : Values ws) → IsWritten text (operands ws v) → read_words ws text ≡ Some v
 words_read END text v h = ap (λ (b : Bool). if b then Some tt else None) h
@@ -180,16 +166,12 @@ words_read (MAYBE k ws) text None h =
 words_read (MAYBE k ws) text (Some v) h =
     let p = parts text (operands ws v.1) k v.0 h in
     let first : read_word k (first_word text) ≡ Some v.0 = word_read k (first_word text) v.0 p.0 in
-    let some : is_all_spaces text ≡ false = some_word k v.0 text first (is_all_spaces text) refl in
+    let some : is_all_spaces text ≡ false = some_word k v.0 text first in
     ap (λ (b : Bool). if b then Some None else option_map (λ v. Some v) (both (read_word k (first_word text)) (read_words ws (after_word text)))) some
     ∙ ap₂ (λ (o : Option (Value k)) (q : Option (Values ws)). option_map (λ v. Some v) (both o q)) first (words_read ws (after_word text) v.1 p.1)
 
 pub are_written : (ws : Words) (text : Bytes) (v : Values ws) → read_words ws text ≡ Some v → IsWritten text (operands ws v)
-are_written END text v h = by (is_all_spaces text) refl
-  where
-    by : (b : Bool) → is_all_spaces text ≡ b → is_all_spaces text ≡ true
-    by true e = e
-    by false e = absurd (none-some v (sym (ap (λ (b : Bool). if b then Some tt else None) e) ∙ h))
+are_written END text v h = true_from_ne_false (is_all_spaces text) (λ e. none-some v (sym (ap (λ (b : Bool). if b then Some tt else None) e) ∙ h))
 are_written TEXT text v h = (same_Some text v h, refl)
 are_written (AND k ws) text v h =
     let p = both_parts (read_word k (first_word text)) (read_words ws (after_word text)) v h in

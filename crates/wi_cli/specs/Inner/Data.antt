@@ -1,6 +1,7 @@
 -- Data lines, as they are read and held, and what a line asks for.
 use Rattle.std.specs.Prelude.{if◌then◌else◌, ◌&&◌, ◌++◌, ◌+◌, ◌<◌, ◌==◌, ◌≡◌}
-use Rattle.wi_cli.specs.Inner.Words.{AddressFault, All, Answer, BadCommand, Bool, Cell, Command, Csv, CutShort, DataLines, Err, Held, IsImportStep, IsStep, Lacking, Line, List, MayLackMemory, None, Ok, Option, OutOfSheet, Outside, Refusal, Result, RunFault, Shape, Some, State, TooLong, Unreadable, [], concat, false, is_ok, length, list_any, raw_lines, read_address, true, ℕ}
+use Rattle.wi_cli.specs.Words.{AddressFault, All, Answer, BadCommand, Bool, Cell, Command, Csv, CutShort, DataLines, Err, Held, IsImportStep, IsStep, Lacking, Line, List, None, Ok, Option, OutOfSheet, Outside, Refusal, Result, RunFault, Shape, Some, State, TooLong, Unreadable, [], concat, false, is_ok, length, list_any, raw_lines, read_address, true, ℕ}
+use Rattle.wi_cli.specs.Reply.{MayLackMemory}
 use Rattle.wi_cli.specs.declared.csv_line.CsvLine.{CsvLine as ReadCsv}
 use Rattle.wi_cli.specs.Inner.Script.{CsvLine, is_long}
 use Rattle.wi_cli.specs.Inner.Told.{RefusedAs}

@@ -1,7 +1,7 @@
 -- The command that a text spells, by the forms of commands.
 use Rattle.wi_scenarios.specs.Commands.Command.{Set, Clear, Fill, Scenario, Drop, Base, Use, As, Show, Export, Changes, Compare, Table, Formula}
 use Rattle.std.specs.Prelude.{if◌then◌else◌, ◌∷◌}
-use Rattle.wi_cli.specs.Inner.Words.{Bool, Bytes, Cell, Command, CornerCells, List, None, Option, Some, Unknown, [], after_word, bytes_eq, codes, false, first_word, option_map, read_name, true}
+use Rattle.wi_cli.specs.Words.{Bool, Bytes, Cell, Command, CornerCells, List, None, Option, Some, Unknown, [], after_word, bytes_eq, codes, false, first_word, option_map, read_name, true}
 use Rattle.wi_cli.specs.Inner.Operands.{is_all_spaces, both, spelled_cell, spelled_rect, read_side}
 
 -- ---- words

@@ -1,7 +1,7 @@
 -- The operands of commands, as they are read, and the commands that have them.
 use Rattle.wi_scenarios.specs.Commands.Command.{Set, Clear, Fill, Scenario, Drop, Base, Use, As, Show, Export, Changes, Compare, Table, Formula}
 use Rattle.std.specs.Prelude.{if◌then◌else◌, ◌&&◌, ◌+◌, ◌-◌, ◌==◌, ◌||◌, ◌≡◌, ◌≢◌}
-use Rattle.wi_cli.specs.Inner.Words.{AddressFault, Area, BadCommand, Bool, Cell, Command, CornerCells, Err, IsStep, List, Memory, None, Ok, Option, Outside, Refusal, Result, Shape, Some, State, address, after_word, area, byte, bytes_eq, bytes_of, cell, codes, corners, digits_value, drop, false, first_word, form, is_ascii_alphabetic, is_column, is_outside, is_row, is_row_number, is_space, letters_value, lies_outside, list_all, list_any, nat_lt, operand_refusal, option_map, position, prefix_len, read_address, read_name, read_rect, result_err, take, ℕ}
+use Rattle.wi_cli.specs.Words.{AddressFault, Area, BadCommand, Bool, Cell, Command, CornerCells, Err, IsStep, List, Memory, None, Ok, Option, Outside, Refusal, Result, Shape, Some, State, address, after_word, area, byte, bytes_eq, bytes_of, cell, codes, corners, digits_value, drop, false, first_word, form, is_ascii_alphabetic, is_column, is_outside, is_row, is_row_number, is_space, letters_value, lies_outside, list_all, list_any, nat_lt, operand_refusal, option_map, position, prefix_len, read_address, read_name, read_rect, result_err, take, ℕ}
 use Rattle.wi_cli.specs.declared.command.Command.{Command as ReadCommand}
 use Rattle.wi_cli.specs.declared.command.Command.TheVariants as read
 
@@ -125,9 +125,8 @@ placed (Scenario name at text) = Scenario name (cell (address at)) text
 placed (Show r) = Show (corners (area r))
 placed (Export r) = Export (corners (area r))
 placed (Compare p q r) = Compare p q (corners (area r))
-placed (Table f r xs None) = Table (cell (address f)) (cell (address r)) (corners (area xs)) None
-placed (Table f r xs (Some y)) =
-    Table (cell (address f)) (cell (address r)) (corners (area xs)) (Some (cell (address y.0), corners (area y.1)))
+placed (Table f r xs y) =
+    Table (cell (address f)) (cell (address r)) (corners (area xs)) (option_map (λ v. (cell (address v.0), corners (area v.1))) y)
 placed (Formula at) = Formula (cell (address at))
 placed c = c
 

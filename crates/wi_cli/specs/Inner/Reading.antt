@@ -1,6 +1,6 @@
 -- The bytes that are still to come, what the reader of lines takes of them, and how far a script was read.
 use Rattle.std.specs.Prelude.{if◌then◌else◌, ◌*◌, ◌++◌, ◌+◌, ◌<◌, ◌∷◌, ◌≡◌, ◌≤◌}
-use Rattle.wi_cli.specs.Inner.Words.{Bool, Consumes, IsAtEnd, LineReader, List, MatchResult, Option, Read, Result, RunFault, ScriptLimit, State, [], codes, false, is_whole, length, max_line, max_lines, nat_lt, prepend_known, take, true, ℕ}
+use Rattle.wi_cli.specs.Words.{Bool, Consumes, IsAtEnd, LineReader, List, MatchResult, Option, Read, Result, RunFault, ScriptLimit, State, [], codes, false, is_whole, length, max_line, max_lines, nat_lt, prepend_known, take, true, ℕ}
 
 -- the bytes in the buffer and then the source's are bs and then what they are now
 abbrev pub Takes : List ℕ → Option (List ℕ) → List ℕ → Option (List ℕ) → List ℕ → Type 0

@@ -1,6 +1,6 @@
 -- The commands that lines spell: blocks of a line and the data lines that it takes.
 use Rattle.std.specs.Prelude.{if◌then◌else◌, ◌&&◌, ◌++◌, ◌-◌, ◌==◌, ◌||◌, ◌∷◌}
-use Rattle.wi_cli.specs.Inner.Words.{Bool, Command, Csv, List, None, Option, Some, Unreadable, [], after_word, all_ascii_digits, byte, bytes_eq, codes, digits_value, false, first_word, is_utf8, length, max_line, nat_le, nat_lt, not, true, without_cr, without_lf, ℕ}
+use Rattle.wi_cli.specs.Words.{Bool, Command, Csv, List, None, Option, Some, Unreadable, [], after_word, all_ascii_digits, byte, bytes_eq, codes, digits_value, false, first_word, is_utf8, length, max_line, nat_le, nat_lt, not, true, without_cr, without_lf, ℕ}
 use Rattle.wi_cli.specs.Inner.Operands.{is_all_spaces, spelled_cell}
 use Rattle.wi_cli.specs.Inner.Forms.{spelled_command}
 

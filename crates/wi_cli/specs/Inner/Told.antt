@@ -1,7 +1,8 @@
 -- The reply to a command, and what is told of one line.
 use Rattle.wi_scenarios.specs.Commands.Command.{Drop, As}
 use Rattle.std.specs.Prelude.{◌%◌, ◌++◌, ◌+◌, ◌/◌, ◌∷◌, ◌≡◌}
-use Rattle.wi_cli.specs.Inner.Words.{Answer, Command, Csv, Done, Err, IsStep, List, MayLackMemory, Memory, None, Ok, Option, Passed, Refusal, Refused, Reply, Result, Serves, Some, Stale, State, [], address_text, byte, code_of, codes, has_session, true, ℕ}
+use Rattle.wi_cli.specs.Words.{Answer, Command, Csv, Done, Err, IsStep, List, Memory, None, Ok, Option, Passed, Refusal, Refused, Reply, Result, Serves, Some, Stale, State, [], address_text, byte, code_of, codes, has_session, true, ℕ}
+use Rattle.wi_cli.specs.Reply.{MayLackMemory}
 
 -- `refused E`, and a code in two digits
 abbrev pub refused_code : ℕ → List ℕ

@@ -1,6 +1,7 @@
 -- Lines that were taken from the source, and what one turn of a run does.
 use Rattle.std.specs.Prelude.{◌++◌, ◌+◌, ◌<◌, ◌∷◌, ◌≡◌, ◌≤◌}
-use Rattle.wi_cli.specs.Inner.Words.{Appends, Bool, Command, Err, List, Ok, Option, Read, Reply, Result, RunFault, ScriptLimit, Write, Writes, [], concat, false, filter, filter_map, is_whole, length, max_lines, option_to_list, raw_lines, take, true, ℕ}
+use Rattle.wi_cli.specs.Words.{Appends, Bool, Command, Err, List, Ok, Option, Read, Reply, Result, RunFault, ScriptLimit, Write, [], concat, false, filter, filter_map, is_whole, length, max_lines, option_to_list, raw_lines, take, true, ℕ}
+use Rattle.wi_cli.specs.Outcome.{Writes}
 use Rattle.wi_cli.specs.Inner.Reading.{Place, Advances, IsOver, Stage}
 use Rattle.wi_cli.specs.Inner.Script.{Block, blocks, is_complete, block_command}
 use Rattle.wi_cli.specs.Inner.Told.{reply_bytes}

@@ -1,5 +1,5 @@
-use Rattle.wi_cli.proofs.Vocabulary.{◌∙◌, refl, sym, err_from_is_err_and}
-use Rattle.wi_cli.proofs.DataLemmas.{data_begun, data_more, data_stopped, goes_on_whole, goes_on_some, still_few, fewer}
+use Rattle.wi_cli.proofs.Vocabulary.{◌∙◌, refl, sym, and_parts, ltb-true, err_from_is_err_and}
+use Rattle.wi_cli.proofs.DataLemmas.{data_begun, data_more, data_stopped, still_few, fewer}
 use Rattle.wi_cli.proofs.data_lines.read_data.Goals as goal
 
 pub taking-init : goal.taking-init
@@ -18,7 +18,7 @@ returns-in_err-whole-clause-took g c =
     let old = c.taking.invariant in
     let on = sym c.goes_on.ensures ∙ c.taking-test.true in
     rw (p.1, p.2) (data_stopped _ _ c.args.whole _ _ _ _ old.few
-    (rw (goes_on_whole c.taking.whole _ on) at old.taken) (goes_on_some c.taking.whole _ on) c.in_err-whole.ensures.took)
+    (rw ((and_parts c.taking.whole _ on).0) at old.taken) (ltb-true 0 _ (and_parts c.taking.whole _ on).1) c.in_err-whole.ensures.took)
 
 pub returns-in_err-whole-clause-reads : goal.returns-in_err-whole-clause-reads
 returns-in_err-whole-clause-reads g c =
@@ -38,7 +38,7 @@ taking-preserved g c =
     let k = c.in_ok-whole.ensures.took in
     let more = c.add.ensures.added k.took.content k.took.no_lf (c.deref.ensures.value ∙ k.took.kept) in
     let taken = data_more _ _ c.add.new.self c.args.whole c.in_ok-whole.whole _ _ _ c.next_line.new.script.line.items old.few
-    (rw (goes_on_whole c.taking.whole _ on) at old.taken) k more in
+    (rw ((and_parts c.taking.whole _ on).0) at old.taken) k more in
     record {
       taken = taken;
       wanted = more.wanted ∙ old.wanted;
