@@ -56,6 +56,9 @@ impl Plans {
     pub(crate) fn forget(&mut self, alloc: Global)
         ensures { (s : Sheet) → ArePlans s self.new }
     {
+        if self.plans.is_empty() && self.sightings.is_empty() {
+            return;
+        }
         *self = Plans::new(alloc);
     }
 
