@@ -6,7 +6,7 @@ pub use Rattle.std.proofs.lemmas.Bool.Decides.{nat_tests}
 pub use Rattle.std.proofs.lemmas.Cmp.{eq_by_cmp_equiv, nat_cmp_total}
 pub use Rattle.std.proofs.lemmas.Grind.{common_steps}
 pub use Rattle.std.proofs.lemmas.List.{map-append, nil_from_length}
-pub use Rattle.std.proofs.lemmas.List.Elements.{All-more}
+pub use Rattle.std.proofs.lemmas.List.Elements.{All-more, All-nil}
 pub use Rattle.std.proofs.lemmas.List.Folds.{list_all_more, list_any_at, list_any_more}
 pub use Rattle.std.proofs.lemmas.List.Sorted.{IsPermutation-map, list_any-IsPermutation}
 pub use Rattle.std.proofs.lemmas.Map.{lookup-set_value}

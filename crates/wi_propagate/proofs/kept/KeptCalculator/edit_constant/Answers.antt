@@ -1,4 +1,4 @@
-use Rattle.wi_propagate.proofs.Words.{◌≡◌, ◌∙◌, ℕ, Option, Ok, refl, ap, sym, subst, if◌then◌else◌, keys_of, Stored, applied, in_cone, AreEdgesOf, sheet_after, Generations, HasGeneration, IsHeadOf, KeptSheet, generation_in, AreKeptRight, AreCarriedCones, kept_sheet, flushed, AreKeptUp, ArePlans, rules}
+use Rattle.wi_propagate.proofs.Words.{◌≡◌, ◌∙◌, ℕ, Option, Ok, ap, sym, subst, if◌then◌else◌, keys_of, Stored, applied, in_cone, AreEdgesOf, sheet_after, Generations, IsHeadOf, KeptSheet, generation_in, AreKeptRight, AreCarriedCones, kept_sheet, flushed, AreKeptUp, ArePlans, rules}
 use Rattle.wi_propagate.proofs.Editing.{edges_stay, refused_edit, refused_same, right_after_edit, right_unnamed, edit_flushed, edit_keeps_up}
 use Rattle.wi_propagate.proofs.HeadSteps.{head_over}
 use Rattle.wi_propagate.proofs.KeptCones.{carried_over}
