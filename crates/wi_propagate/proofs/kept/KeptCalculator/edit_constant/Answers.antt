@@ -18,13 +18,13 @@ invariant_of-self-in-Ok c =
     let after = edges_stay i.graph.now i.store new ch (reads h.1) accepted in
     let kept_head = head_over i.graph.now i.store.sheet new.sheet i.generations.head i.generations.cone h.1 after h.5.stamped.head in
     let head_is = subst (λ (o : Option ℕ). IsHeadOf new.sheet o last.cone) (sym (c.stamp.ensures.head.0 ∙ c.in_ok-mark_dirty.ensures.head.0)) (subst (IsHeadOf new.sheet i.generations.head) (sym (c.stamp.ensures.head.1 ∙ c.in_ok-mark_dirty.ensures.head.1)) kept_head) in
-    let flushed_is = edit_flushed i.store new ch i.generations mid last c.args.cells.now c.edits.result accepted c.requires.cells c.edits.ensures c.in_ok-mark_dirty.ensures.edited_at c.stamp.ensures.edited_at h.5 in (
+    let flushed_is = edit_flushed i.store new ch i.generations mid last c.args.cells.now c.edits-number.result accepted c.requires.cells c.edits-number.ensures c.in_ok-mark_dirty.ensures.edited_at c.stamp.ensures.edited_at h.5 in (
       h.0,
       after,
       h.2,
-      right_after_edit i.store new ch c.edits.result (flushed i.store.sheet i.generations.edited_at) (flushed new.sheet last.edited_at) _ i.meter i.meter accepted flushed_is c.edits.ensures h.3,
+      right_after_edit i.store new ch c.edits-number.result (flushed i.store.sheet i.generations.edited_at) (flushed new.sheet last.edited_at) _ i.meter i.meter accepted flushed_is c.edits-number.ensures h.3,
       carried_over i.graph.now i.store.sheet new.sheet i.carried h.1 after h.4,
-      edit_keeps_up i.store new ch i.generations mid last c.args.cells.now c.edits.result accepted c.requires.cells c.edits.ensures c.in_ok-mark_dirty.ensures.edited_at c.stamp.ensures.edited_at h.5
+      edit_keeps_up i.store new ch i.generations mid last c.args.cells.now c.edits-number.result accepted c.requires.cells c.edits-number.ensures c.in_ok-mark_dirty.ensures.edited_at c.stamp.ensures.edited_at h.5
           c.in_ok-mark_dirty.ensures.stays (c.in_ok-mark_dirty.ensures.dirty i.store.sheet h.1) (λ d. ap (λ (ns : Generations). generation_in ns d) (c.stamp.ensures.valid_since ∙ c.in_ok-mark_dirty.ensures.valid_since)) c.stamp.ensures.dirty head_is,
       c.forget.ensures new.sheet,
     )
@@ -39,8 +39,8 @@ returns-in-Ok-clause-edited c =
       same_values = ap (λ (k : KeptSheet). k.values) c.self.view_is;
       generations = subst
           (λ (k : KeptSheet). (d : ℕ) → generation_in (flushed new.sheet c.stamp.new.self.edited_at) d ≡ (if in_cone k.stored.sheet (keys_of ch) d then new.edits else generation_in k.generations d)) c.self.view_is
-          (λ d. edit_flushed i.store new ch i.generations c.mark_dirty.new.self c.stamp.new.self c.args.cells.now c.edits.result c.in-Ok.ensures c.requires.cells c.edits.ensures c.in_ok-mark_dirty.ensures.edited_at c.stamp.ensures.edited_at c.self.invariant.5 d
-          ∙ ap (λ (n : ℕ). if in_cone i.store.sheet (keys_of ch) d then n else generation_in (flushed i.store.sheet i.generations.edited_at) d) c.edits.ensures);
+          (λ d. edit_flushed i.store new ch i.generations c.mark_dirty.new.self c.stamp.new.self c.args.cells.now c.edits-number.result c.in-Ok.ensures c.requires.cells c.edits-number.ensures c.in_ok-mark_dirty.ensures.edited_at c.stamp.ensures.edited_at c.self.invariant.5 d
+          ∙ ap (λ (n : ℕ). if in_cone i.store.sheet (keys_of ch) d then n else generation_in (flushed i.store.sheet i.generations.edited_at) d) c.edits-number.ensures);
     }
 
 pub stamp-requires : goal.stamp-requires
