@@ -1,5 +1,5 @@
 -- What is so of a calculator that keeps values stays so over an edit.
-use Rattle.wi_propagate.proofs.Words.{◌≡◌, ◌==◌, ◌⊎◌, ◌≤◌, ◌+◌, ℕ, Bool, true, false, cond, nat_lt, nat_le, List, [], ◌∷◌, map, Option, Some, None, IfSome, Result, Ok, Err, refl, ap, sym, ◌∙◌, subst, arith, or_parts, keys_of, turn_test, Content, Constant, Formula, Sheet, content_of, with_content, Stored, edited, without_empty, change_without_empty, accepted, applied, Applies, StoreFault, Full, EditLimit, Memory, Counts, KeptValues, kept, value_for, is_one_of, SameOff, in_cone, Edges, AreEdgesOf, brought, edges_after, sheet_after, edges_follow, Generations, IsEdit, KeptSheet, generation_in, IsKeptFor, AreKeptRight, content_of-with, Value, Key, numbered, IsUnread, Box, Carried, kept_sheet, Stamps, flushed, AreKeptUp, IsHeadOf}
+use Rattle.wi_propagate.proofs.Words.{◌≡◌, ◌==◌, ◌⊎◌, ◌≤◌, ◌+◌, ℕ, Bool, true, false, cond, nat_lt, nat_le, List, [], ◌∷◌, map, length, get_or, Option, Some, None, IfSome, Result, Ok, Err, refl, ap, sym, ◌∙◌, subst, arith, or_parts, eqb-true, found-without, keys_of, turn_test, Content, Constant, Formula, Sheet, content_of, with_content, Stored, edited, without_empty, change_without_empty, accepted, applied, Applies, StoreFault, Full, EditLimit, Memory, Counts, KeptValues, kept, value_for, is_one_of, SameOff, in_cone, Edges, AreEdgesOf, areas_at, areas_in, with_areas, brought, edges_after, sheet_after, edges_follow, Generations, IsEdit, KeptSheet, generation_in, IsKeptFor, AreKeptRight, content_of-with, Value, Key, numbered, IsUnread, Box, Carried, kept_sheet, Stamps, flushed, AreKeptUp, IsHeadOf}
 use Rattle.wi_propagate.proofs.RightValues.{AreRaised, kept_over_edit}
 use Rattle.wi_propagate.proofs.StampSteps.{flushed_after, flushed_same, kept_up_after, no_numbers, flushed_none}
 
@@ -126,6 +126,24 @@ module _ (old new : Stored) (changes : List (ℕ × Option Content)) (first mid 
   edit_keeps_up stays dirty valid_since still head = subst (λ (m : ℕ). AreKeptUp new.sheet m last) number (kept_up_after old.sheet new.sheet (keys_of changes) first mid last old.edits n (same_off_applied old new changes h) (number ∙ number_applied old new changes h) space stays
       (λ x m. dirty x (ap (λ (xs : List ℕ). is_one_of xs x) are ∙ m)) numbers valid_since still head k)
 
+pub edges_stay : (es : Edges) (old new : Stored) (changes : List (ℕ × Option Content)) → AreEdgesOf es (sheet_after old.sheet changes) → applied old changes ≡ Ok new → AreEdgesOf es new.sheet
+edges_stay es old new changes h e = subst (AreEdgesOf es) (sym ((accepted_is old new (map change_without_empty changes) e).0 ∙ edited_is_after old.sheet changes)) h
+
 pub edges_applied : (es : Edges) (old new : Stored) (changes : List (ℕ × Option Content)) → AreEdgesOf es old.sheet → applied old changes ≡ Ok new → AreEdgesOf (edges_after es changes) new.sheet
-edges_applied es old new changes h e =
-    subst (AreEdgesOf (edges_after es changes)) (sym ((accepted_is old new (map change_without_empty changes) e).0 ∙ edited_is_after old.sheet changes)) (edges_follow es old.sheet changes h)
+edges_applied es old new changes h e = edges_stay (edges_after es changes) old new changes (edges_follow es old.sheet changes h) e
+
+-- ---- an edit of one cell
+
+only_is : (xs : List (ℕ × Option Content)) (x : ℕ × Option Content) → length xs ≡ 1 → x ≡ get_or xs 0 x → xs ≡ x ∷ []
+only_is [] x l h = absurd (omega (arith, l))
+only_is (y ∷ []) x l h = ap (λ (z : ℕ × Option Content). z ∷ []) (sym h)
+only_is (y ∷ z ∷ zs) x l h = absurd (omega (arith, l))
+
+-- where no formula stood in a cell and none comes, the edges are those of the sheet after it
+pub edges_without : (es : Edges) (s : Sheet) (xs : List (ℕ × Option Content)) (x : ℕ × Option Content) → length xs ≡ 1 → x ≡ get_or xs 0 x → areas_in x.1 ≡ None → areas_in (content_of s x.0) ≡ None → AreEdgesOf es s → AreEdgesOf es (sheet_after s xs)
+edges_without es s xs x l is comes stood edges = subst (λ ys. AreEdgesOf es (sheet_after s ys)) (sym (only_is xs x l is)) (λ d.
+    same d (d == x.0) refl ∙ ap (λ o. areas_at (with_areas es x.0 o) d) (sym comes) ∙ edges_follow es s (x ∷ []) edges d)
+  where
+    same : (d : ℕ) (b : Bool) → (d == x.0) ≡ b → areas_at es d ≡ areas_at (with_areas es x.0 None) d
+    same d true e = ap (areas_at es) (eqb-true d x.0 e) ∙ edges x.0 ∙ stood ∙ sym (found-without es x.0 d ∙ ap (λ b. cond b None (areas_at es d)) e)
+    same d false e = sym (found-without es x.0 d ∙ ap (λ b. cond b None (areas_at es d)) e)

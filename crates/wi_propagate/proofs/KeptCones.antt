@@ -1,5 +1,5 @@
 -- Cones that are kept over an edit.
-use Rattle.wi_propagate.proofs.Words.{◌≡◌, ◌==◌, ◌&&◌, ◌||◌, ◌⊎◌, inl, inr, not, ℕ, Bool, true, false, List, [], ◌∷◌, refl, ap, sym, ◌∙◌, subst, false≢true, or_left, Sheet, ReachTable, reaches, in_cone, Edges, AreEdgesOf, IsClosedUp, cone_has, cone_closed, same_reaches, is_itself, AreAllCones}
+use Rattle.wi_propagate.proofs.Words.{◌≡◌, ◌==◌, ◌&&◌, ◌||◌, ◌⊎◌, inl, inr, not, ℕ, Bool, true, false, List, [], ◌∷◌, refl, ap, sym, ◌∙◌, subst, false≢true, or_left, Sheet, ReachTable, reaches, in_cone, Edges, AreEdgesOf, IsClosedUp, cone_has, cone_closed, same_reaches, is_itself, AreAllCones, Option, Box, Carried, AreCarriedCones, None, Some}
 
 -- where nothing is told
 pub none_recorded : (s : Sheet) (t : ReachTable) → t ≡ record { known = []; reached = [] } → AreAllCones s t
@@ -14,6 +14,11 @@ cones_over es s t flushed a b h = record {
   where
     same : (c x : ℕ) → reaches s c x ≡ reaches t c x
     same c x = same_reaches s t (λ d. sym (a d) ∙ b d) c x
+
+-- also where they are carried
+pub carried_over : (es : Edges) (s t : Sheet) (carried : Option (Box Carried)) → AreEdgesOf es s → AreEdgesOf es t → AreCarriedCones s carried → AreCarriedCones t carried
+carried_over es s t None a b h = h
+carried_over es s t (Some x) a b h = cones_over es s t x.value.cones a b h
 
 pub in_same_cone : (es : Edges) (s t : Sheet) → AreEdgesOf es s → AreEdgesOf es t → (xs : List ℕ) (c : ℕ) → in_cone s xs c ≡ in_cone t xs c
 in_same_cone es s t a b [] c = refl

@@ -6,7 +6,7 @@ pub use Rattle.std.proofs.lemmas.Bool.Decides.{nat_tests}
 pub use Rattle.std.proofs.lemmas.Cmp.{eq_by_cmp_equiv, nat_cmp_total}
 pub use Rattle.std.proofs.lemmas.Grind.{common_steps}
 pub use Rattle.std.proofs.lemmas.List.{map-append, nil_from_length}
-pub use Rattle.std.proofs.lemmas.List.Elements.{All-more}
+pub use Rattle.std.proofs.lemmas.List.Elements.{All-more, All-nil}
 pub use Rattle.std.proofs.lemmas.List.Folds.{list_all_more, list_any_at, list_any_more}
 pub use Rattle.std.proofs.lemmas.List.Sorted.{IsPermutation-map, list_any-IsPermutation}
 pub use Rattle.std.proofs.lemmas.Map.{lookup-set_value}
@@ -51,7 +51,7 @@ pub use Rattle.wi_graph.proofs.SetSteps.{in_back, in_front, in_last}
 pub use Rattle.wi_graph.proofs.Tests.{clash}
 pub use Rattle.wi_graph.proofs.Walks.{formula_cell, reader_formula, same_cell}
 pub use Rattle.wi_graph.specs.Circular.{circular}
-pub use Rattle.wi_graph.specs.Edges.{AreEdgesOf, Edges, Staging, brought, edges_after, sheet_after, staging}
+pub use Rattle.wi_graph.specs.Edges.{AreEdgesOf, Edges, Staging, areas_at, areas_in, brought, edges_after, sheet_after, staging, with_areas}
 pub use Rattle.wi_graph.specs.Inner.Below.{has_visited}
 pub use Rattle.wi_graph.specs.Latest.{AreDirty, IsLatest, IsDirty, IsFlushing, IsUnread, latest_among, numbered}
 pub use Rattle.wi_graph.specs.Reach.{IsInCone, Reaches, SameOff, Walks, in_cone, reaches}
@@ -100,9 +100,10 @@ unfoldable pub use Rattle.wi_store.specs.Store.{accepted}
 pub use Rattle.wi_store.specs.declared.fault.StoreFault.{StoreFault}
 pub use Rattle.wi_store.specs.declared.fault.StoreFault.TheVariants.{EditLimit, Full, Memory}
 pub use Rattle.wi_tiles.specs.Entries.{CellEntries, get}
+pub use Rattle.wi_values.proofs.Keys.{lone_key}
 pub use Rattle.wi_values.proofs.Listed.{has_at, has_one_more}
 pub use Rattle.wi_values.proofs.Lists.{sum_ones}
-pub use Rattle.wi_values.proofs.Lookups.{found-insert}
+pub use Rattle.wi_values.proofs.Lookups.{found-insert, found-without}
 pub use Rattle.wi_values.proofs.Order.{is_at-eq, is_itself, turn_test}
 pub use Rattle.wi_values.proofs.Outcomes.{on_err, on_ok}
 pub use Rattle.wi_values.proofs.Replacements.Same.{same_replacements_Decides}

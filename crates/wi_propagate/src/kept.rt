@@ -10,7 +10,7 @@ ghost use Rattle.wi_parser.specs.Sheet.{Sheet};
 ghost use Rattle.wi_store.specs.Store.{applied, Applies};
 ghost use Rattle.wi_cache.specs.Entries.{kept};
 ghost use Rattle.wi_graph.specs.Circular.{circular};
-ghost use Rattle.wi_graph.specs.Edges.{AreEdgesOf};
+ghost use Rattle.wi_graph.specs.Edges.{Edges, AreEdgesOf, sheet_after};
 ghost use Rattle.wi_graph.specs.Reach.{in_cone};
 ghost use Rattle.wi_sheet.specs.Shown as show;
 ghost use Rattle.wi_sheet.specs.TableEntry.{table_entry, entry_demanded};
@@ -26,6 +26,7 @@ use crate::carried::{Carried, carry_over_edit, forget_carried, take_carried};
 use crate::generations::Generations;
 use crate::keeping::Keeping;
 use crate::last_worlds::LastWorlds;
+use crate::one_cell::{is_without_formulas, only_cell};
 use crate::planned_cell::planned_cell;
 use crate::plans::Plans;
 use crate::standing::{Standing, standing_value};
@@ -134,8 +135,40 @@ impl KeptCalculator {
             (applied self.old.stored changes.old) result self.old.stored self.new.stored }
         ensures edited { IsEdit self.old self.new (keys_of changes.old) (is_ok result) }
     {
+        if let Some(cell) = only_cell(changes) {
+            if is_without_formulas(&self.store, changes) {
+                return self.edit_constant(changes, &[cell]);
+            }
+            return self.edit_cells(changes, &[cell]);
+        }
         let cells = edited_cells(self.alloc, changes)?;
         self.edit_cells(changes, cells.as_slice())
+    }
+
+    /// Does an edit after which each cell reads what it read, so that the graph and the cones stay. Its cells are listed
+    /// in the order of its changes.
+    fn edit_constant(
+        &mut self,
+        changes: &mut [NewContent],
+        cells: &[Address],
+    ) -> Result<(), StoreFault>
+        requires cells { cells.now ≡ keys_of changes.old }
+        requires reads { (es : Edges) → AreEdgesOf es self.old.stored.sheet
+            → AreEdgesOf es (sheet_after self.old.stored.sheet changes.old) }
+        ensures applied { Applies
+            (applied self.old.stored changes.old) result self.old.stored self.new.stored }
+        ensures edited { IsEdit self.old self.new (keys_of changes.old) (is_ok result) }
+    {
+        self.generations.mark_dirty(&self.graph, cells)?;
+        match self.store.apply_slice(changes) {
+            Ok(()) => {
+                let number = self.store.edits();
+                self.generations.stamp(cells, number);
+                self.plans.forget(self.alloc);
+                Ok(())
+            }
+            Err(fault) => Err(fault),
+        }
     }
 
     /// Does an edit whose cells are listed already, in the order of its changes.

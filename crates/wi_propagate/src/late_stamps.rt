@@ -135,6 +135,9 @@ impl LateStamps {
             ≡ generation_in self.old.numbers c }
         ensures head { self.new.head ≡ None }
     {
+        if self.head.is_none() {
+            return;
+        }
         if self.greatest < self.counts_as {
             raise(&mut self.numbers, &self.cone, self.counts_as);
             self.greatest = self.counts_as;

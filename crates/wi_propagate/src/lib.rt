@@ -12,6 +12,7 @@ mod last_worlds;
 mod late_stamps;
 pub mod laws;
 mod occupied;
+mod one_cell;
 mod plain;
 mod planned_cell;
 mod plans;

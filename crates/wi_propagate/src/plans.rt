@@ -1,6 +1,6 @@
 //! Plans for cells that are asked for again and again where the same cells are replaced.
 
-ghost use Rattle.std.specs.Prelude.{◌≡◌, map, true, IfSome};
+ghost use Rattle.std.specs.Prelude.{◌≡◌, map, true, IsTrue, IfSome};
 ghost use Rattle.wi_parser.specs.Sheet.{Sheet};
 ghost use Rattle.wi_engine.specs.Inner.Frames.{MayBeRead};
 ghost use Rattle.wi_engine.specs.Inner.MemoState.{IsMemoOf};
@@ -56,7 +56,21 @@ impl Plans {
     pub(crate) fn forget(&mut self, alloc: Global)
         ensures { (s : Sheet) → ArePlans s self.new }
     {
+        if self.has_nothing() {
+            return;
+        }
         *self = Plans::new(alloc);
+    }
+
+    /// Whether there is no plan, and no cell is noted.
+    #[inline(always)]
+    fn has_nothing(&self) -> bool
+        ensures { IsTrue result → (s : Sheet) → ArePlans s self.now }
+    {
+        if self.plans.is_empty() {
+            return self.sightings.is_empty();
+        }
+        false
     }
 
     /// The plan for a cell where a world's cells are replaced, if there is one. The work grows with their count.
