@@ -145,8 +145,8 @@ impl KeptCalculator {
         self.edit_cells(changes, cells.as_slice())
     }
 
-    /// Does an edit after which each cell reads what it read, so that the graph and the cones stay. Its cells are listed
-    /// in the order of its changes.
+    /// Does an edit after which each cell reads what it read, so that the graph and the cones stay. Its cells are
+    /// listed in the order of its changes.
     fn edit_constant(
         &mut self,
         changes: &mut [NewContent],
