@@ -6,3 +6,4 @@ pub mod NextRoom
 pub mod ContentsLemmas
 pub mod Words
 pub mod IndexLemmas
+pub mod Beside

@@ -1,14 +1,14 @@
 //! Indexes of rows and columns that are searched again and again.
 
-ghost use Rattle.std.specs.Prelude.{◌≡◌, None, IfOk, IfSome, OnOk};
+ghost use Rattle.std.specs.Prelude.{◌≡◌, true, None, All, IfOk, IfSome, OnOk};
 ghost use Rattle.wi_parser.specs.Sheet.{Sheet};
 ghost use Rattle.wi_tiles.specs.Rooms.{AreBetweenEdits};
-ghost use Rattle.wi_store.specs.Store.{IsFirstNumber, contents_in};
-ghost use Rattle.wi_store.specs.Inner.Indexes.{AreIndexesOf, IsIndexOf, IsLineIndexOf, TakesIn};
+ghost use Rattle.wi_store.specs.Store.{IsFirstNumber, contents_in, edited};
+ghost use Rattle.wi_store.specs.Inner.Indexes.{AreIndexesOf, IsIndexOf, IsLineIndexOf, StandBeside, TakesIn};
 ghost use Rattle.wi_store.specs.Inner.Rooms.{sheet_in};
 
 use crate::contents::Contents;
-use crate::rooms::Rooms;
+use crate::rooms::{NewRoom, Rooms};
 use std::alloc::{AllocError, Global};
 use std::cell::Cell;
 use std::collections::HashMap;
@@ -27,6 +27,9 @@ const SEARCHES: usize = 12;
 
 /// How many cells a row or column has at least that gets an index.
 const MIN_CELLS: u64 = 32;
+
+/// How many cells an edit has at most over which indexes may stay.
+const MAX_EDITED: usize = 16;
 
 /// The first cell with each number.
 type FirstCells = HashMap<Fraction, Address>;
@@ -66,6 +69,18 @@ impl Indexes {
         self.made.clear();
         self.searches.clear();
         self.searched.set(None);
+    }
+
+    /// Lets all go, with what is noted of searches, but where these cells are few and none of them stands in a row or
+    /// column that has an index. The work grows with the count of indexes and of cells.
+    pub(crate) fn keep_beside(&mut self, brought: &[NewRoom])
+        ensures same { (s : Sheet) → AreIndexesOf s self.old → AreIndexesOf s self.new }
+        ensures edited { (s : Sheet) → AreIndexesOf s self.old
+            → AreIndexesOf (edited s brought.now) self.new }
+    {
+        if brought.len() > MAX_EDITED || !are_beside(&self.made, brought) {
+            self.clear();
+        }
     }
 
     /// The first cell of a row or column with a number, where it has an index. Else the search is noted. The work grows
@@ -170,6 +185,26 @@ impl LineIndex {
             Some(cells) => Some(cells.get(&number).copied()),
             None => None,
         }
+    }
+}
+
+/// Whether none of these cells stands in a row or column of an index.
+fn are_beside(made: &[LineIndex], brought: &[NewRoom]) -> bool
+    ensures { result ≡ true → All (λ i. StandBeside i.line brought.now) made.now }
+{
+    match made {
+        [] => true,
+        [index, rest @ ..] => is_beside(index.line, brought) && are_beside(rest, brought),
+    }
+}
+
+/// Whether none of these cells lies in a rectangle.
+fn is_beside(line: Rect, brought: &[NewRoom]) -> bool
+    ensures { result ≡ true → StandBeside line brought.now }
+{
+    match brought {
+        [] => true,
+        [(at, _), rest @ ..] => !line.contains(*at) && is_beside(line, rest),
     }
 }
 

@@ -31,7 +31,7 @@ pub struct Store {
     rooms: Rooms,
     edits: u64,
     limits: Limits,
-    // Of rows and columns that are searched again and again. An edit lets all go.
+    // Of rows and columns that are searched again and again. They stay while edits of few cells stand beside them.
     indexes: Indexes,
     alloc: Global,
 }
@@ -153,7 +153,7 @@ impl Store {
         ensures { Applies (accepted self.old brought.old) result self.old self.new }
     {
         let before = self.occupied();
-        self.indexes.clear();
+        self.indexes.keep_beside(brought);
         let answer = edit(&mut self.rooms, before, &self.limits, self.edits, brought);
         let occupied = answer.unwrap_or(before);
         sweep(&mut self.rooms, brought, occupied);

@@ -1,10 +1,12 @@
 -- Indexes of rows and columns.
-use Rattle.std.specs.Prelude.{◌≡◌, ℕ, ◌∷◌, All, Option, Some, None, IfSome}
+use Rattle.std.specs.Prelude.{◌≡◌, ℕ, false, List, [], ◌∷◌, All, Option, Some, None, IfSome}
 use Rattle.std.specs.HashMap.{HashMap, get}
 use Rattle.wi_fraction.specs.Number.{Number}
 use Rattle.wi_fraction.specs.Order.{same_parts}
+use Rattle.wi_values.specs.Address.{Area, is_within}
 use Rattle.wi_values.specs.declared.value.Value.{Value}
 use Rattle.wi_parser.specs.Sheet.{Sheet}
+use Rattle.wi_parser.specs.declared.content.Content.{Content}
 use Rattle.wi_parser.specs.declared.content.Content.TheVariants.{Constant}
 use Rattle.wi_store.specs.Store.{IsFirstNumber, contents_in, first_number}
 use Rattle.wi_store.specs.declared.indexes.Indexes.{Indexes}
@@ -31,3 +33,8 @@ IsLineIndexOf s i = IfSome i.cells (IsIndexOf (contents_in i.line s))
 -- each is one of the sheet
 abbrev pub AreIndexesOf : Sheet → Indexes → Type 0
 AreIndexesOf s is = All (IsLineIndexOf s) is.made.items
+
+-- none of the changed cells lies in the rectangle
+abbrev pub StandBeside : Area → List (ℕ × Option Content) → Type 0
+StandBeside r [] = Unit {0}
+StandBeside r (e ∷ es) = (is_within r e.0 ≡ false) × StandBeside r es
