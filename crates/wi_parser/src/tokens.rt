@@ -8,14 +8,19 @@ ghost use Rattle.wi_parser.specs.Inner.FormulaText.{symbols_of, symbols_with};
 use crate::fault::ParseFault;
 use crate::front::Front;
 use crate::symbol::Symbol;
+use smallvec::SmallVec;
 use std::alloc::{AllocError, Global};
 use wi_lexer::Lexer;
 
+/// Symbols, of which eight take no memory of their own, as most formulas have no more.
+pub(crate) type SymbolList = SmallVec<Symbol, 8>;
+
 /// The symbols of what follows a formula's `=`. Where none follows the prefix, those of what does, after a refused one.
-pub(crate) fn symbols_of(alloc: Global, front: &Front<'_>) -> Result<Vec<Symbol>, AllocError>
+#[inline(always)]
+pub(crate) fn symbols_of(alloc: Global, front: &Front<'_>) -> Result<SymbolList, AllocError>
     ensures { IfOk result (λ symbols. all_meant symbols.items ≡ symbols_with front.now) }
 {
-    let mut symbols = Vec::new(alloc);
+    let mut symbols = SymbolList::new(alloc);
     if front.body.is_none() {
         symbols.push(Symbol::Refused(ParseFault::Syntax))?;
     }
@@ -24,7 +29,7 @@ pub(crate) fn symbols_of(alloc: Global, front: &Front<'_>) -> Result<Vec<Symbol>
 }
 
 /// Appends the symbols of the tokens, up to the first bad one.
-fn push_symbols(alloc: Global, text: &str, symbols: &mut Vec<Symbol>) -> Result<(), AllocError>
+fn push_symbols(alloc: Global, text: &str, symbols: &mut SymbolList) -> Result<(), AllocError>
     ensures { IfOk result (λ _. all_meant symbols.new.items
         ≡ all_meant symbols.old.items ++ symbols_of (tokens text.now)) }
 {

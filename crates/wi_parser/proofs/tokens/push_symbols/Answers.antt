@@ -13,7 +13,7 @@ loop-next-preserved-in_ok-push-in-Ok c =
     let l = c.loop-next in
     let new = c.next_token.new.self in
     let given = rw c.in-Ok.is at c.in-Some.ensures in
-    ap (λ ws. all_meant ws ++ left new) c.in_ok-push-in-Ok.ensures.items ∙ pushed l.symbols.items c.in_ok-of_token-in-Ok.field-0 (left new)
+    ap (λ ws. all_meant ws ++ left new) c.in_ok-push-in-Ok.ensures.ok ∙ pushed l.symbols.items c.in_ok-of_token-in-Ok.field-0 (left new)
     ∙ ap (λ x. all_meant l.symbols.items ++ x) (ap (λ x. x ∷ left new) c.in_ok-of_token-in-Ok.ensures ∙ sym (left_next l.lexer c.in-Ok.token new given))
     ∙ l.invariant
 
@@ -22,7 +22,7 @@ loop-next-preserved c =
     let l = c.loop-next in
     let new = c.next_token.new.self in
     let given = rw c.in-Err.is at c.in-Some.ensures in
-    ap (λ ws. all_meant ws ++ left new) c.in_ok-push-in-Err.ensures.items ∙ pushed l.symbols.items _ (left new)
+    ap (λ ws. all_meant ws ++ left new) c.in_ok-push-in-Err.ensures.ok ∙ pushed l.symbols.items _ (left new)
     ∙ ap (λ x. all_meant l.symbols.items ++ x) (sym (left_bad l.lexer new given.0 given.1 given.2))
     ∙ l.invariant
 
