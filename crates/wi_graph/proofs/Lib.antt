@@ -27,5 +27,6 @@ pub mod GraphEnds
 pub mod StageEnds
 pub mod BeyondSteps
 pub mod BelowSteps
+pub mod ApartSteps
 pub mod LatestLaws
 pub mod Words

@@ -9,3 +9,4 @@ pub mod Turning
 pub mod Below
 pub mod Changes
 pub mod Walks
+pub mod Apart

@@ -1,6 +1,6 @@
 //! The graph of references.
 
-ghost use Rattle.std.specs.Prelude.{◌≡◌, ◌↔◌, ◌&&◌, [], ℕ, true, false, not, Some, None, IsTrue, IfOk, OnOk, OnErr};
+ghost use Rattle.std.specs.Prelude.{◌≡◌, ◌↔◌, ◌&&◌, [], ℕ, true, false, not, Some, None, IsTrue, IfOk, IfSome, OnOk, OnErr};
 ghost use Rattle.std.specs.List.Sorted.{IsStrictlyIncreasing};
 ghost use Rattle.std.specs.Option.{unwrap_or};
 ghost use Rattle.std.specs.Ordering.{nat_cmp};
@@ -10,13 +10,14 @@ ghost use Rattle.wi_parser.specs.Reads.{content_reads};
 ghost use Rattle.wi_graph.specs.Circular.{circular};
 ghost use Rattle.wi_values.specs.Address.{is_one_of};
 ghost use Rattle.wi_graph.specs.Reach.{in_cone};
-ghost use Rattle.wi_graph.specs.Watched.{IsClosedUp};
+ghost use Rattle.wi_graph.specs.Watched.{AreReadAlike, IsClosedUp};
 ghost use Rattle.wi_graph.specs.Latest.{IsUnread};
 ghost use Rattle.wi_graph.specs.Edges.{AreEdgesOf, edges_after, staging};
 ghost use Rattle.wi_graph.specs.Inner.Changes.{Brings};
 ghost use Rattle.wi_graph.specs.Inner.Rooms.{room_at, AreInOrder, HasNoIdle, IsGraph, IsStaged};
 ghost use Rattle.wi_graph.specs.Inner.Turning.{AreTurns};
 
+use crate::apart::are_apart;
 use crate::beyond::listed_beyond;
 use crate::cell_set::CellSet;
 use crate::cells::Cells;
@@ -111,6 +112,20 @@ impl Graph {
     {
         match &self.staged {
             Some(staged) => staged.next.is_empty(),
+            None => false,
+        }
+    }
+
+    /// Whether an edit is staged after which each watched cell is read by the same cells as before, as far as few steps
+    /// tell: where a cell that it names reads a rectangle of more than 32 cells, it answers no. The work grows with the
+    /// cells of the rectangles that the named cells read, before and after.
+    pub fn readers_stay<W: Watch>(&self, watch: &W) -> bool
+        ensures { IsTrue result → (s t : Sheet) → AreEdgesOf self.now.now s
+            → IfSome self.now.staged (λ es. AreEdgesOf es t)
+            → AreReadAlike (W.watched watch.now) s t }
+    {
+        match &self.staged {
+            Some(staged) => are_apart(&self.rooms, &staged.next, watch),
             None => false,
         }
     }

@@ -1,6 +1,7 @@
 //! The graph of references: which cells are on or above a cycle, and which cells depend on a cell.
 #![tactic(auto)]
 
+mod apart;
 mod below;
 mod beyond;
 mod bounds;

@@ -1,5 +1,7 @@
 -- What is told of replaced cells, and the replacements that reach a cell.
-use Rattle.wi_propagate.proofs.Words.{◌≡◌, ◌==◌, ◌||◌, ◌&&◌, ◌⊎◌, inl, inr, ◌<◌, ◌+◌, ℕ, Bool, true, false, cond, List, [], ◌∷◌, length, take, get_or, Result, Ok, Err, OnOk, OnErr, filter, refl, ap, sym, ◌∙◌, subst, list_all, or_cases, and_parts, or-false, list_all_more, Replacement, Sheet, ReachTable, AddsOf, is_known, is_reached_by, reached_by, is_one_of, reaches, in_cone, same_cell, one_truth, reaching, AreAllCones}
+use Rattle.std.proofs.lemmas.Bool.{or_right}
+use Rattle.wi_propagate.proofs.KeptCones.{none_recorded}
+use Rattle.wi_propagate.proofs.Words.{◌≡◌, ◌==◌, ◌||◌, ◌&&◌, ◌⊎◌, inl, inr, ◌<◌, ◌+◌, ℕ, Bool, true, false, cond, List, [], ◌∷◌, length, take, get_or, Result, Ok, Err, OnOk, OnErr, filter, refl, ap, sym, ◌∙◌, subst, list_all, or_cases, and_parts, or-false, or_left, is_itself, list_all_more, Replacement, Sheet, ReachTable, AddsOf, is_known, is_reached_by, reached_by, is_one_of, reaches, in_cone, same_cell, one_truth, reaching, AreAllCones}
 
 -- ---- one cell more
 
@@ -18,8 +20,15 @@ module _ (s : Sheet) (a : ℕ) (cone : List ℕ) (old new : ReachTable) (h : Are
   all_still : (c b : ℕ) → is_known old b ≡ true → reaches s c b ≡ true → reached_by new c b ≡ true
   all_still c b k r = adds.stays c b (h.all c b k r)
 
+  known_with : ((b : ℕ) → is_known new b ≡ ((a == b) || is_known old b)) → (c b : ℕ) → reached_by new c b ≡ true → is_known new b ≡ true
+  known_with known c b k = by (adds.within c b k)
+    where
+      by : (reached_by old c b ≡ true) ⊎ ((is_one_of cone c ≡ true) × (b ≡ a)) → is_known new b ≡ true
+      by (inl m) = known b ∙ or_right (a == b) (is_known old b) (h.of_known c b m)
+      by (inr m) = known b ∙ or_left (a == b) (is_known old b) (ap (λ x. a == x) m.1 ∙ is_itself a)
+
   cones_with : ((b : ℕ) → is_known new b ≡ ((a == b) || is_known old b)) → ((c : ℕ) → is_one_of cone c ≡ true → reached_by new c a ≡ true) → AreAllCones s new
-  cones_with known all = record { so = so_still; all = λ c b k r. by c b r (or_cases (a == b) (is_known old b) (sym (known b) ∙ k)) }
+  cones_with known all = record { of_known = known_with known; so = so_still; all = λ c b k r. by c b r (or_cases (a == b) (is_known old b) (sym (known b) ∙ k)) }
     where
       by : (c b : ℕ) → reaches s c b ≡ true → ((a == b) ≡ true) ⊎ (is_known old b ≡ true) → reached_by new c b ≡ true
       by c b r (inl m) =
@@ -28,27 +37,18 @@ module _ (s : Sheet) (a : ℕ) (cone : List ℕ) (old new : ReachTable) (h : Are
           (all c (is c ∙ in_one c ∙ ap (reaches s c) same ∙ r))
       by c b r (inr m) = all_still c b m r
 
-  cones_without : new.known ≡ old.known → AreAllCones s new
-  cones_without same = record {
-    so = so_still;
-    all = λ c b k r. all_still c b (sym (ap (λ (xs : List ℕ). is_one_of xs b) same) ∙ k) r;
-  }
-
-  -- whether it was told of all, or memory ran out
-  pub cones_tried : {T E : Type 0} (r : Result T E) → OnOk r ((b : ℕ) → is_known new b ≡ ((a == b) || is_known old b)) → OnOk r ((c : ℕ) → is_one_of cone c ≡ true → reached_by new c a ≡ true)
-      → OnErr r (new.known ≡ old.known) → AreAllCones s new
-  cones_tried (Ok x) known all err = cones_with known all
-  cones_tried (Err e) known all err = cones_without err
+-- whether it was told of all, or memory ran out and nothing is told any more
+pub cones_tried : (s : Sheet) (a : ℕ) (cone : List ℕ) (old new : ReachTable) → AreAllCones s old → ((c : ℕ) → is_one_of cone c ≡ in_cone s (a ∷ []) c)
+    → {T E : Type 0} (r : Result T E) → OnOk r (AddsOf a cone old.reached new.reached) → OnOk r ((b : ℕ) → is_known new b ≡ ((a == b) || is_known old b))
+    → OnOk r ((c : ℕ) → is_one_of cone c ≡ true → reached_by new c a ≡ true) → OnErr r (new ≡ record { known = []; reached = [] }) → AreAllCones s new
+cones_tried s a cone old new h is (Ok x) adds known all err = cones_with s a cone old new h is adds known all
+cones_tried s a cone old new h is (Err e) adds known all err = none_recorded s new err
 
 -- what is known stays
-pub known_still : {T E : Type 0} (a : ℕ) (old new : ReachTable) (r : Result T E) → OnOk r ((b : ℕ) → is_known new b ≡ ((a == b) || is_known old b)) → OnErr r (new.known ≡ old.known)
-    → (b : ℕ) → is_known old b ≡ true → is_known new b ≡ true
-known_still a old new (Ok x) known err b h = known b ∙ both (a == b)
-  where
-    both : (t : Bool) → (t || is_known old b) ≡ true
-    both true = refl
-    both false = h
-known_still a old new (Err e) known err b h = ap (λ (xs : List ℕ). is_one_of xs b) err ∙ h
+pub known_still : {T E : Type 0} (a : ℕ) (old new : ReachTable) (r : Result T E) → OnOk r ((b : ℕ) → is_known new b ≡ ((a == b) || is_known old b))
+    → OnOk r ((b : ℕ) → is_known old b ≡ true → is_known new b ≡ true)
+known_still a old new (Ok x) known = λ b h. known b ∙ or_right (a == b) (is_known old b) h
+known_still a old new (Err e) known = tt
 
 -- ---- replacements passed one after another
 

@@ -6,11 +6,11 @@ ghost use Rattle.wi_values.specs.Address.{is_one_of};
 ghost use Rattle.wi_worlds.specs.Reached.{is_known, reached_by, AddsOf};
 ghost use Rattle.wi_parser.specs.Sheet.{Sheet};
 ghost use Rattle.wi_graph.specs.Edges.{AreEdgesOf};
-ghost use Rattle.wi_propagate.specs.Inner.Cones.{AreAllCones};
+ghost use Rattle.wi_propagate.specs.Inner.Cones.{AreAllCones, is_in_one};
 
 use std::alloc::{AllocError, Global};
 use std::marker::Model;
-use wi_graph::Graph;
+use wi_graph::{Graph, Watch};
 use wi_values::Address;
 use wi_worlds::{Reaches, World};
 
@@ -29,8 +29,9 @@ const MOST_CELLS: usize = 1_048_576;
 #[derive(Drop)]
 pub struct Cones {
     reaches: Reaches,
-    // How many cells they have together, a cell counted in each that has it, and in one that memory was short for.
+    // How many cells they have together, a cell counted in each that has it.
     cells: usize,
+    alloc: Global,
 }
 
 impl Model for Cones {
@@ -41,6 +42,15 @@ impl Model for Cones {
     ghost view = { λ c. c.reaches };
 }
 
+/// Each cell that is in a cone is watched.
+impl Watch for Cones {
+    ghost watched = { is_in_one };
+
+    fn has(&self, at: Address) -> bool {
+        self.reaches.has_recorded(at)
+    }
+}
+
 impl Cones {
     /// None yet. Takes no memory.
     pub(crate) fn new(alloc: Global) -> Cones
@@ -49,6 +59,7 @@ impl Cones {
         Cones {
             reaches: Reaches::new(alloc),
             cells: 0,
+            alloc,
         }
     }
 
@@ -60,18 +71,21 @@ impl Cones {
         &self.reaches
     }
 
-    /// Adds the cone of a cell. If memory runs out, the same are known as before, and of its cells some may be
-    /// recorded.
+    /// Adds the cone of a cell. If memory runs out, all go.
     fn add(&mut self, at: Address, cone: &[Address]) -> Result<(), AllocError>
         ensures known { OnOk result ((a : ℕ) → is_known self.new a
             ≡ (at == a || is_known self.old a)) }
-        ensures adds { AddsOf at cone.now self.old.reached self.new.reached }
+        ensures adds { OnOk result (AddsOf at cone.now self.old.reached self.new.reached) }
         ensures all { OnOk result ((c : ℕ) → is_one_of cone.now c ≡ true
             → reached_by self.new c at ≡ true) }
-        ensures err { OnErr result (self.new.known ≡ self.old.known) }
+        ensures err { OnErr result (self.new ≡ record { known = []; reached = [] }) }
     {
+        if let Err(refused) = self.reaches.add(at, cone) {
+            *self = Cones::new(self.alloc);
+            return Err(refused);
+        }
         self.cells = self.cells.saturating_add(cone.len());
-        self.reaches.add(at, cone)
+        Ok(())
     }
 
     /// Whether they are more than a question takes over, if questions have had at most so many replaced cells.
@@ -95,7 +109,9 @@ pub(crate) fn keep_if_few(alloc: Global, widest: usize, cones: &mut Cones)
     }
 }
 
-/// Lets the cones go over the edit that is staged if after it some cell reads other cells than before. Takes no memory.
+/// Lets the cones go over the edit that is staged if after it a cell that is in one of them may be read by other cells
+/// than before. Takes no memory. The work is that of `Graph::readers_stay`, with a look-up for each cell, and of what
+/// goes.
 pub(crate) fn keep_over_edit(alloc: Global, graph: &Graph, cones: &mut Cones)
     ensures { (s t : Sheet) → AreEdgesOf graph.now.now s
         → IfSome graph.now.staged (λ es. AreEdgesOf es t)
@@ -104,13 +120,13 @@ pub(crate) fn keep_over_edit(alloc: Global, graph: &Graph, cones: &mut Cones)
     if cones.reaches().is_empty() {
         return;
     }
-    if !graph.reads_stay() {
+    if !graph.readers_stay(cones) {
         *cones = Cones::new(alloc);
     }
 }
 
 /// Adds the cones of the replaced cells that have none yet. The work for each is that of its cone; where all have one
-/// it is that of `knows_all`. If memory runs out, those added so far stay.
+/// it is that of `knows_all`. If memory runs out, all go.
 #[inline(always)]
 pub(crate) fn add_cones(graph: &Graph, world: &World, cones: &mut Cones) -> Result<(), AllocError>
     requires { graph.now.staged ≡ None }
@@ -133,7 +149,8 @@ fn add_cone(graph: &Graph, at: Address, cones: &mut Cones) -> Result<(), AllocEr
     ensures cones { (s : Sheet) → AreEdgesOf graph.now.now s → AreAllCones s cones.old
         → AreAllCones s cones.new }
     ensures there { OnOk result (is_known cones.new at ≡ true) }
-    ensures stay { (a : ℕ) → is_known cones.old a ≡ true → is_known cones.new a ≡ true }
+    ensures stay { OnOk result ((a : ℕ) → is_known cones.old a ≡ true
+        → is_known cones.new a ≡ true) }
 {
     if cones.reaches().knows(at) {
         return Ok(());

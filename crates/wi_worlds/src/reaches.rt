@@ -1,6 +1,6 @@
 //! Which of some replaced cells each cell reaches.
 
-ghost use Rattle.std.specs.Prelude.{◌≡◌, ◌↔◌, ◌==◌, ◌&&◌, ◌||◌, ℕ, [], true, IsTrue, OnOk, OnErr, length};
+ghost use Rattle.std.specs.Prelude.{◌≡◌, ◌↔◌, ◌==◌, ◌&&◌, ◌||◌, ℕ, [], true, nat_lt, IsTrue, OnOk, OnErr, length};
 ghost use Rattle.std.specs.List.{list_all};
 ghost use Rattle.std.specs.List.Sorted.{IsStrictlyIncreasing};
 ghost use Rattle.wi_values.specs.Address.{is_one_of};
@@ -76,6 +76,13 @@ impl Reaches {
         ensures { result ≡ list_all (λ r. is_known self.now r.at) world.now }
     {
         have_all(self.known.as_slice(), world.replacements())
+    }
+
+    /// Whether a cell is recorded to reach another. One look-up.
+    pub fn has_recorded(&self, at: Address) -> bool
+        ensures { result ≡ nat_lt 0 (length (reached_cells self.now at)) }
+    {
+        !self.reached(at).is_empty()
     }
 
     /// Makes a cell known, with the cells that reach it. If memory runs out, the same are known as before, and of those
