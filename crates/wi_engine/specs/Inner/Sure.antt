@@ -1,4 +1,4 @@
--- The cells that each evaluation of a formula asks for, and those of them that are found together.
+-- The cells that each evaluation of a formula asks for, but for errors, and those of them that are found together.
 use Rattle.std.specs.Prelude.{◌≡◌, ◌≤◌, ◌⊎◌, ℕ, true, List}
 use Rattle.wi_values.specs.Address.{Area, is_one_of, size_of}
 use Rattle.wi_values.specs.declared.value.Value.{Value}
@@ -7,8 +7,10 @@ use Rattle.wi_parser.specs.Reads.{rectangles_of}
 use Rattle.wi_parser.specs.Sheet.{Sheet}
 use Rattle.wi_value_functions.specs.Applied.{applied_to_arguments}
 use Rattle.wi_value_functions.specs.declared.function.Function.{Function}
-use Rattle.wi_value_functions.specs.declared.function.Function.TheVariants.{Lazy, Values}
+use Rattle.wi_value_functions.specs.declared.function.Function.TheVariants.{Lazy, References, Values}
+use Rattle.wi_value_functions.specs.declared.function.FoldFunction.{FoldFunction}
 use Rattle.wi_value_functions.specs.declared.function.LazyFunction.{LazyFunction}
+use Rattle.wi_value_functions.specs.declared.function.ReferenceFunction.TheVariants.{Fold}
 use Rattle.wi_value_functions.specs.declared.function.ValueFunction.{ValueFunction}
 use Rattle.wi_functions.specs.Meaning.{arguments, meaning}
 use Rattle.wi_engine.specs.Inner.Attempt.{lacks_cell}
@@ -21,14 +23,15 @@ IsCallOf name ts f = (cells : ℕ → Value) (what_ifs : ℕ → List (ℕ × �
 
 abbrev mutual
   -- Each evaluation of the tree asks for this cell: it stands in an operand, in a parameter of a function that takes
-  -- the value of each, or in the first of one that chooses another by it.
+  -- the value of each, in the first of one that chooses another by it, or in a parameter of a function that folds the
+  -- items of each, of which an error leaves out those behind it.
   pub IsSure : Tree → ℕ → Type 0
   IsSure (cell r) a = r.at ≡ a
   IsSure (parenthesized t) a = IsSure t a
   IsSure (signed s t) a = IsSure t a
   IsSure (percent t) a = IsSure t a
   IsSure (binary op t u) a = IsSure t a ⊎ IsSure u a
-  IsSure (call name ts) a = ((f : ValueFunction) × IsCallOf name ts (Values f) × IsOneSure ts a) ⊎ ((f : LazyFunction) × IsCallOf name ts (Lazy f) × FirstIsSure ts a)
+  IsSure (call name ts) a = ((f : ValueFunction) × IsCallOf name ts (Values f) × IsOneSure ts a) ⊎ (((f : LazyFunction) × IsCallOf name ts (Lazy f) × FirstIsSure ts a) ⊎ ((f : FoldFunction) × IsCallOf name ts (References (Fold f)) × IsOneSure ts a))
   IsSure t a = ⊥
 
   -- each evaluation of one of these trees asks for this cell

@@ -2,7 +2,7 @@ use Rattle.wi_engine.proofs.Words.{◌≡◌, Some, slice_get, sym, IfOk-weaker,
 use Rattle.wi_parser.specs.View.{tree_of, all_of}
 use Rattle.wi_functions.proofs.Parameters.{call_found}
 use Rattle.wi_engine.specs.Inner.Sure.{FirstIsSure, IsOneSure, IsSure}
-use Rattle.wi_engine.proofs.beside.SureCells.{first_sure, listed_then, listed_wider, of_values, of_lazy, sure_there}
+use Rattle.wi_engine.proofs.beside.SureCells.{first_sure, listed_then, listed_wider, of_folds, of_values, of_lazy, sure_there}
 use Rattle.wi_engine.proofs.beside.+walking.Goals as goal
 
 pub push_sure_of_call-returns-in-Ok-Lazy : goal.push_sure_of_call-returns-in-Ok-Lazy
@@ -16,6 +16,12 @@ push_sure_of_call-returns-in-Ok-Values t c =
     IfOk-weaker c.push_sure_of_all.result _ _
     (λ x. of_values c.args.store.now.sheet c.args.frame.now c.args.name.now (all_of c.args.parameters.now) c.in-Ok-Values.field-0-0 c.args.cells.now.items c.push_sure_of_all.new.cells.items
     (λ cells what_ifs. sym (call_found c.args.parameters.now _ _ _ _ cells what_ifs c.in-Ok-Values.ensures.found c.in-Ok-Values.field-0-is c.as_str.ensures))) c.push_sure_of_all.ensures
+
+pub push_sure_of_call-returns-in-Ok-References-Fold : goal.push_sure_of_call-returns-in-Ok-References-Fold
+push_sure_of_call-returns-in-Ok-References-Fold t c =
+    IfOk-weaker c.push_sure_of_all-in-Ok-References-Fold.result _ _
+    (λ x. of_folds c.args.store.now.sheet c.args.frame.now c.args.name.now (all_of c.args.parameters.now) c.in-Ok-References-Fold.field-0-0-0 c.args.cells.now.items c.push_sure_of_all-in-Ok-References-Fold.new.cells.items
+    (λ cells what_ifs. sym (call_found c.args.parameters.now _ _ _ _ cells what_ifs c.in-Ok-References-Fold.ensures.found c.in-Ok-References-Fold.field-0-is c.as_str.ensures))) c.push_sure_of_all-in-Ok-References-Fold.ensures
 
 pub push_sure_of_all-loop-expr-preserved : goal.push_sure_of_all-loop-expr-preserved
 push_sure_of_all-loop-expr-preserved t c =
