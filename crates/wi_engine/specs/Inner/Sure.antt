@@ -22,9 +22,9 @@ abbrev pub IsCallOf : List ℕ → Trees → Function → Type 0
 IsCallOf name ts f = (cells : ℕ → Value) (what_ifs : ℕ → List (ℕ × ℕ) → Value) → meaning (call name ts) cells what_ifs ≡ applied_to_arguments f (arguments ts cells what_ifs)
 
 abbrev mutual
-  -- Each evaluation of the tree that an error doesn't end asks for this cell: it stands in an operand, in a parameter of
-  -- a function that takes the value of each, in one of a function that folds the items of each up to an error, or in the
-  -- first of one that chooses another by it.
+  -- Each evaluation of the tree that an error doesn't end asks for this cell: it stands in an operand, in a parameter
+  -- of a function that takes the value of each, in one of a function that folds the items of each up to an error, or in
+  -- the first of one that chooses another by it.
   pub IsSure : Tree → ℕ → Type 0
   IsSure (cell r) a = r.at ≡ a
   IsSure (parenthesized t) a = IsSure t a
