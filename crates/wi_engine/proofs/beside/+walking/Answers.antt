@@ -1,8 +1,9 @@
-use Rattle.wi_engine.proofs.Words.{◌≡◌, ◌∙◌, Some, slice_get, ap, sym, IfOk-weaker, rules}
+use Rattle.wi_engine.proofs.Words.{◌≡◌, ◌∙◌, inl, Some, slice_get, ap, sym, IfOk-weaker, rules}
 use Rattle.wi_parser.specs.View.{tree_of, all_of}
+use Rattle.wi_parser.specs.Tree.{call}
 use Rattle.wi_value_functions.specs.declared.function.Function.TheVariants.{References}
 use Rattle.wi_functions.proofs.Parameters.{call_found}
-use Rattle.wi_engine.specs.Inner.Sure.{FirstIsSure, IsOneSure, IsSure}
+use Rattle.wi_engine.specs.Inner.Sure.{FirstIsSure, IsListedWith, IsOneSure, IsSure}
 use Rattle.wi_engine.proofs.beside.SureCells.{first_sure, listed_then, listed_wider, of_folds, of_values, of_lazy, sure_there}
 use Rattle.wi_engine.proofs.beside.+walking.Goals as goal
 
@@ -25,7 +26,9 @@ push_sure_of_call-returns-in-Fold t c =
     (λ cells what_ifs. sym (call_found c.args.parameters.now _ _ _ _ cells what_ifs c.in-Ok-References.ensures.found (c.in-Ok-References.field-0-is ∙ ap References c.in-Fold.is) c.as_str.ensures))) c.push_sure_of_all-in-Fold.ensures
 
 pub push_sure_of_call-returns-in-Lookup : goal.push_sure_of_call-returns-in-Lookup
-push_sure_of_call-returns-in-Lookup t c = search rules
+push_sure_of_call-returns-in-Lookup t c =
+    let none : IsListedWith c.args.store.now.sheet c.args.frame.now (IsSure (call c.args.name.now (all_of c.args.parameters.now))) c.args.cells.now.items c.args.cells.now.items = λ d m. inl m in
+    search none
 
 pub push_sure_of_all-loop-expr-preserved : goal.push_sure_of_all-loop-expr-preserved
 push_sure_of_all-loop-expr-preserved t c =
