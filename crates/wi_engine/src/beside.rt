@@ -1,8 +1,9 @@
 //! The single cells that are found together with one that a formula lacks.
 //!
 //! A formula that adds a thousand cells would be begun a thousand times if one of them were found each time. But an
-//! operator evaluates both operands whatever their values are, and so do most functions with their parameters. So where
-//! one cell is lacking, all are found that each evaluation asks for. None is found that stands in one branch alone.
+//! operator evaluates both operands whatever their values are, and so do most functions with their parameters; SUM and
+//! its like take the items of one after another, up to an error. So where one cell is lacking, all are found for which
+//! each evaluation asks that an error doesn't end. None is found that stands in one branch alone.
 
 ghost use Rattle.std.specs.Prelude.{◌≡◌, IfOk};
 ghost use Rattle.wi_parser.specs.View.{tree_of, all_of};
@@ -14,13 +15,14 @@ use crate::lacking::is_lacking;
 use std::alloc::{AllocError, Global};
 use wi_parser::Expr;
 use wi_store::Store;
-use wi_value_functions::{Function, function_for};
+use wi_value_functions::{Function, ReferenceFunction, function_for};
 use wi_values::{Address, Text};
 
-/// The cells that a frame lacks and that each evaluation of its formula asks for, from the left, and behind them a
-/// cell. A walk through the formula's tree finds them, in which each cell costs a look at what stands there and, for a
-/// formula, one at what the frame found. It is made where 4 cells were found before, or 8, or 16, and so on: a formula
-/// that reads few is soon begun anew, and one walk after another finds nothing new. Else it is that cell alone.
+/// The cells that a frame lacks and for which each evaluation of its formula asks that an error doesn't end, from the
+/// left, and behind them a cell. A walk through the formula's tree finds them, in which each cell costs a look at what
+/// stands there and, for a formula, one at what the frame found. It is made where 4 cells were found before, or 8, or
+/// 16, and so on: a formula that reads few is soon begun anew, and one walk after another finds nothing new. Else it is
+/// that cell alone.
 pub(crate) fn with_sure_cells(
     alloc: Global,
     store: &Store,
@@ -38,7 +40,7 @@ pub(crate) fn with_sure_cells(
     Ok(cells)
 }
 
-/// Appends the cells that a frame lacks and that each evaluation of an expression asks for.
+/// Appends the cells that a frame lacks and for which each evaluation of an expression asks that an error doesn't end.
 #[cycle(walking)]
 fn push_sure(
     store: &Store,
@@ -66,8 +68,8 @@ fn push_sure(
     }
 }
 
-/// Appends those of a call: of all parameters where the function takes the value of each, and of the first where this
-/// chooses another.
+/// Appends those of a call: of all parameters where the function takes the value of each or folds the items of each,
+/// and of the first where this chooses another.
 #[cycle(walking)]
 #[inline(never)]
 fn push_sure_of_call(
@@ -83,7 +85,10 @@ fn push_sure_of_call(
     match function_for(name.as_str(), parameters.len()) {
         Ok(Function::Lazy(_)) => push_sure_of_first(store, frame, parameters, cells),
         Ok(Function::Values(_)) => push_sure_of_all(store, frame, parameters, cells),
-        Ok(Function::References(_)) => Ok(()),
+        Ok(Function::References(function)) => match function {
+            ReferenceFunction::Fold(_) => push_sure_of_all(store, frame, parameters, cells),
+            ReferenceFunction::Lookup(_) => Ok(()),
+        },
         Err(_) => Ok(()),
     }
 }

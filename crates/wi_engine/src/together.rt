@@ -4,7 +4,8 @@
 //! thousand times if one of them were found each time; and of a table from which INDEX reads one cell the others aren't
 //! wanted. So how many are found goes by what was wanted of the same rectangle before. A cell is found alone, and where
 //! the next one that is wanted follows, in its row, its column or the whole rectangle, twice as many are found each
-//! time, if there are so many. A cell that is read alone is found with those that each evaluation asks for.
+//! time, if there are so many. A cell that is read alone is found with those for which each evaluation asks that an
+//! error doesn't end.
 
 ghost use Rattle.std.specs.Prelude.{◌≡◌, ℕ, true, nat_lt, if◌then◌else◌, IfOk, IfSome, IfNone};
 ghost use Rattle.wi_values.specs.Address.{is_one_of, is_within_one, size_of};

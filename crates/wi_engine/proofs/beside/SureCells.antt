@@ -5,8 +5,10 @@ use Rattle.wi_parser.specs.declared.expr.Expr.{Expr}
 use Rattle.wi_parser.specs.View.{tree_of, all_of}
 use Rattle.wi_parser.specs.Tree.{Trees, number, text, cell, rectangle, parenthesized, percent, signed, binary, what_if, call, no_trees, more_trees}
 use Rattle.wi_parser.specs.Leaves.{cell_leaf, leaves, all_leaves}
-use Rattle.wi_value_functions.specs.declared.function.Function.TheVariants.{Lazy, Values}
+use Rattle.wi_value_functions.specs.declared.function.Function.TheVariants.{Lazy, References, Values}
+use Rattle.wi_value_functions.specs.declared.function.FoldFunction.{FoldFunction}
 use Rattle.wi_value_functions.specs.declared.function.LazyFunction.{LazyFunction}
+use Rattle.wi_value_functions.specs.declared.function.ReferenceFunction.TheVariants.{Fold}
 use Rattle.wi_value_functions.specs.declared.function.ValueFunction.{ValueFunction}
 use Rattle.wi_functions.specs.Wants.{AnyTreeAsks, LeafAsks}
 use Rattle.wi_functions.proofs.Asking.{any_left, any_right, leaf_asks, left_asks, right_asks}
@@ -34,7 +36,10 @@ module _ (s : Sheet) (f : Frame) where
   of_values name ts g old new is h = listed_wider (IsOneSure ts) (IsSure (call name ts)) old new (λ d k. inl (g, is, k)) h
 
   pub of_lazy : (name : List ℕ) (ts : Trees) (g : LazyFunction) (old new : List ℕ) → IsCallOf name ts (Lazy g) → IsListedWith s f (FirstIsSure ts) old new → IsListedWith s f (IsSure (call name ts)) old new
-  of_lazy name ts g old new is h = listed_wider (FirstIsSure ts) (IsSure (call name ts)) old new (λ d k. inr (g, is, k)) h
+  of_lazy name ts g old new is h = listed_wider (FirstIsSure ts) (IsSure (call name ts)) old new (λ d k. inr (inl (g, is, k))) h
+
+  pub of_folds : (name : List ℕ) (ts : Trees) (g : FoldFunction) (old new : List ℕ) → IsCallOf name ts (References (Fold g)) → IsListedWith s f (IsOneSure ts) old new → IsListedWith s f (IsSure (call name ts)) old new
+  of_folds name ts g old new is h = listed_wider (IsOneSure ts) (IsSure (call name ts)) old new (λ d k. inr (inr (g, is, k))) h
 
 -- what each evaluation of an expression asks for, each of a list with it asks for
 pub sure_there : (es : List Expr) (k : ℕ) (e : Expr) (d : ℕ) → k < length es → e ≡ slice_index_or es k e → IsSure (tree_of e) d → IsOneSure (all_of es) d
@@ -62,7 +67,8 @@ mutual
   sure_asks (binary op t u) a (inr h) = right_asks op t u (Cell a) (sure_asks u a h)
   sure_asks (what_if f pairs) a h = absurd h
   sure_asks (call name ts) a (inl h) = one_asks ts a h.2
-  sure_asks (call name ts) a (inr h) = first_asks ts a h.2
+  sure_asks (call name ts) a (inr (inl h)) = first_asks ts a h.2
+  sure_asks (call name ts) a (inr (inr h)) = one_asks ts a h.2
 
   one_asks : (ts : Trees) (a : ℕ) → IsOneSure ts a → AnyTreeAsks ts (Cell a)
   one_asks no_trees a h = absurd h

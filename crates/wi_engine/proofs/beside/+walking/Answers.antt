@@ -1,8 +1,10 @@
-use Rattle.wi_engine.proofs.Words.{◌≡◌, Some, slice_get, sym, IfOk-weaker, rules}
+use Rattle.wi_engine.proofs.Words.{◌≡◌, ◌∙◌, inl, Some, slice_get, ap, sym, IfOk-weaker, rules}
 use Rattle.wi_parser.specs.View.{tree_of, all_of}
+use Rattle.wi_parser.specs.Tree.{call}
+use Rattle.wi_value_functions.specs.declared.function.Function.TheVariants.{References}
 use Rattle.wi_functions.proofs.Parameters.{call_found}
-use Rattle.wi_engine.specs.Inner.Sure.{FirstIsSure, IsOneSure, IsSure}
-use Rattle.wi_engine.proofs.beside.SureCells.{first_sure, listed_then, listed_wider, of_values, of_lazy, sure_there}
+use Rattle.wi_engine.specs.Inner.Sure.{FirstIsSure, IsListedWith, IsOneSure, IsSure}
+use Rattle.wi_engine.proofs.beside.SureCells.{first_sure, listed_then, listed_wider, of_folds, of_values, of_lazy, sure_there}
 use Rattle.wi_engine.proofs.beside.+walking.Goals as goal
 
 pub push_sure_of_call-returns-in-Ok-Lazy : goal.push_sure_of_call-returns-in-Ok-Lazy
@@ -16,6 +18,17 @@ push_sure_of_call-returns-in-Ok-Values t c =
     IfOk-weaker c.push_sure_of_all.result _ _
     (λ x. of_values c.args.store.now.sheet c.args.frame.now c.args.name.now (all_of c.args.parameters.now) c.in-Ok-Values.field-0-0 c.args.cells.now.items c.push_sure_of_all.new.cells.items
     (λ cells what_ifs. sym (call_found c.args.parameters.now _ _ _ _ cells what_ifs c.in-Ok-Values.ensures.found c.in-Ok-Values.field-0-is c.as_str.ensures))) c.push_sure_of_all.ensures
+
+pub push_sure_of_call-returns-in-Fold : goal.push_sure_of_call-returns-in-Fold
+push_sure_of_call-returns-in-Fold t c =
+    IfOk-weaker c.push_sure_of_all-in-Fold.result _ _
+    (λ x. of_folds c.args.store.now.sheet c.args.frame.now c.args.name.now (all_of c.args.parameters.now) c.in-Fold.field-0 c.args.cells.now.items c.push_sure_of_all-in-Fold.new.cells.items
+    (λ cells what_ifs. sym (call_found c.args.parameters.now _ _ _ _ cells what_ifs c.in-Ok-References.ensures.found (c.in-Ok-References.field-0-is ∙ ap References c.in-Fold.is) c.as_str.ensures))) c.push_sure_of_all-in-Fold.ensures
+
+pub push_sure_of_call-returns-in-Lookup : goal.push_sure_of_call-returns-in-Lookup
+push_sure_of_call-returns-in-Lookup t c =
+    let none : IsListedWith c.args.store.now.sheet c.args.frame.now (IsSure (call c.args.name.now (all_of c.args.parameters.now))) c.args.cells.now.items c.args.cells.now.items = λ d m. inl m in
+    search none
 
 pub push_sure_of_all-loop-expr-preserved : goal.push_sure_of_all-loop-expr-preserved
 push_sure_of_all-loop-expr-preserved t c =
