@@ -59,7 +59,7 @@ pub trait Lookup {
         ensures value { IfSome result (λ x. value_if_known x.1 ≡ known_cell self.now x.0) };
 
     /// The first cell of a rectangle in row-major order whose value is equal to the one sought, where that is told
-    /// without a search.
+    /// without a search: the work grows with the count of replaced cells, and never with the size of the rectangle.
     fn first_equal(&self, area: Rect, sought: &Value) -> Option<Option<Address>>
         ensures { IfSome result (IsFirstEqual (known_cell self.now) area sought.now) }
     {
