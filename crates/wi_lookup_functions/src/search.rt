@@ -104,8 +104,8 @@ fn is_match_any(rule: Rule, value: &Value, sought: &Value) -> bool
     }
 }
 
-/// The place, from 0, of the value sought along one row or one column. The work grows with the count of its filled
-/// cells up to the one after which nothing is found instead.
+/// The place, from 0, of the value sought along one row or one column. The work is that of `Lookup::first_equal` where
+/// that tells it, and else grows with the count of filled cells up to the one after which nothing is found instead.
 pub(crate) fn place_along<L: Lookup>(
     rule: Rule,
     sought: &Value,
