@@ -1,4 +1,5 @@
 pub mod Assignment
 pub mod Filled
+pub mod First
 pub mod Arguments
 pub mod Walk

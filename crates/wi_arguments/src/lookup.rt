@@ -6,6 +6,7 @@ ghost use Rattle.wi_values.specs.Address.{is_within};
 ghost use Rattle.wi_parser.specs.View.{pair_of};
 ghost use Rattle.wi_arguments.specs.Assignment.{addresses, value_if_known};
 ghost use Rattle.wi_arguments.specs.Filled.{IsNextFilled, is_known_empty};
+ghost use Rattle.wi_arguments.specs.First.{IsFirstEqual};
 ghost use Rattle.wi_arguments.specs.Walk.{HasTaken};
 
 use crate::cells::successor;
@@ -56,6 +57,14 @@ pub trait Lookup {
     fn next_value(&self, area: Rect, from: Address) -> Option<(Address, LookedUp<'_>)>
         ensures next { IsNextFilled (known_cell self.now) area from (option_map (λ x. x.0) result) }
         ensures value { IfSome result (λ x. value_if_known x.1 ≡ known_cell self.now x.0) };
+
+    /// The first cell of a rectangle in row-major order whose value is equal to the one sought, where that is told
+    /// without a search: the work grows with the count of replaced cells, and never with the size of the rectangle.
+    fn first_equal(&self, area: Rect, sought: &Value) -> Option<Option<Address>>
+        ensures { IfSome result (IsFirstEqual (known_cell self.now) area sought.now) }
+    {
+        None
+    }
 
     /// That cell alone, at the cost of `next_value`: it grows with the replaced cells and the filled ones that are
     /// passed over.

@@ -1,2 +1,3 @@
 -- What the proofs about what is known use.
+pub mod FirstEqual
 pub mod HandOver

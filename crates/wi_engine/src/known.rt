@@ -154,6 +154,19 @@ impl<'a> Lookup for Known<'a> {
         looked_up(self.found.what_if(formula_cell, pairs))
     }
 
+    /// By the index of `Store::first_with`, where no cell of the rectangle is replaced.
+    fn first_equal(&self, area: Rect, sought: &Value) -> Option<Option<Address>> {
+        let Value::Number(number) = sought else {
+            return None;
+        };
+        let first = self.store.first_with(area, *number)?;
+        self.store.cells_stand_in_order();
+        match next_replaced(self.world.replacements(), area, area.first()) {
+            Some(_) => None,
+            None => Some(first),
+        }
+    }
+
     fn next_value(&self, area: Rect, from: Address) -> Option<(Address, LookedUp<'_>)> {
         let mut ahead = Some(from);
         while let Some(start) = ahead {

@@ -1,7 +1,9 @@
 -- What a walk along one row or one column has found is the place that is asked for.
 use Rattle.wi_lookup_functions.proofs.Words.{◌≡◌, ℕ, suc, ◌<◌, ◌+◌, Bool, true, false, cond, List, [], ◌∷◌, map, filter, length, Option, Some, None, IfSome, Ok, Err, refl, sym, ap, ◌∙◌, subst, arith, nat_lt, ok_or, option_map, position, position_or_len, enumerate_from, last_or, is_eq, is_le, is_ge, ltb-true, length-map, Area, cells_of, NotAvailable, Value, known_agrees, taken_for_known, is_match, Rule, FirstEqual, LastAtMost, LastAtLeast, WhateverHeld, is_line, steps, position_by}
+use Rattle.wi_arguments.specs.First.{IsFirstEqual}
+use Rattle.wi_lookup_functions.specs.Inner.Search.{HasFound}
 use Rattle.wi_lookup_functions.proofs.Lines.{line_numbered}
-use Rattle.wi_lookup_functions.proofs.Searches.{found_in, search_finds}
+use Rattle.wi_lookup_functions.proofs.Searches.{found_first, search_finds}
 
 -- ---- a place that is found is one of the list
 
@@ -33,10 +35,6 @@ position_within LastAtLeast sought vs i h = let l : i < 0 + length vs = last_wit
 
 -- ---- the end of a walk
 
--- what was found, whatever the cells hold of which nothing is known
-abbrev pub HasFound : (ℕ → Option Value) → Area → Rule → Value → Option ℕ → Type 0
-HasFound known r rule sought found = WhateverHeld known (λ cells. found ≡ found_in sought cells (steps r) rule None (cells_of r))
-
 place_is : (known : ℕ → Option Value) (r : Area) (rule : Rule) (sought : Value) (found : Option ℕ) → is_line r ≡ true → HasFound known r rule sought found → WhateverHeld known (λ cells. position_by rule sought (map cells (cells_of r)) ≡ option_map (steps r) found)
 place_is known r rule sought found l h = λ cells a. sym (search_finds sought cells (steps r) rule (cells_of r) (line_numbered r l)) ∙ ap (option_map (steps r)) (sym (h cells a))
 
@@ -51,3 +49,8 @@ place_within known r rule sought found c l h e =
     subst (λ (n : ℕ). steps r c < n) (length-map (cells_of r) (taken_for_known known))
     (position_within rule sought (map (taken_for_known known) (cells_of r)) (steps r c)
     (place_is known r rule sought found l h (taken_for_known known) (known_agrees known) ∙ ap (option_map (steps r)) e))
+
+-- what is told of the first equal one is what a search for it finds
+pub told_found : (known : ℕ → Option Value) (r : Area) (rule : Rule) (sought : Value) (told : Option (Option ℕ)) → rule ≡ FirstEqual → IfSome told (IsFirstEqual known r sought) → IfSome told (HasFound known r rule sought)
+told_found known r rule sought None e h = tt
+told_found known r rule sought (Some found) e h = subst (λ (q : Rule). HasFound known r q sought found) (sym e) (λ cells a. h cells a ∙ sym (found_first sought cells (steps r) (cells_of r)))

@@ -1,5 +1,6 @@
 -- What a search through cells finds is the place that the definitions find in the list of their values.
 use Rattle.wi_lookup_functions.proofs.Words.{◌≡◌, ℕ, suc, ◌+◌, Bool, true, false, cond, ◌&&◌, List, [], ◌∷◌, map, filter, fold, length, Option, Some, None, refl, sym, ap, ◌∙◌, arith, nat_lt, pos, int_lt, option_map, position, position_or_len, enumerate_from, last_or, int_eq, is_eq, is_le, is_ge, nat_tests, Value, is_match, last_position, match_position, type_for, Rule, FirstEqual, LastAtMost, LastAtLeast, found_after, position_by, rule_of_match_type, rule_in_order}
+use Rattle.std.specs.List.{find}
 use Rattle.wi_fraction.specs.Number as numbers
 
 -- the items have these numbers, one after another
@@ -53,6 +54,15 @@ module _ (sought : Value) (cells : ℕ → Value) (number : ℕ → ℕ) where
           ap (option_map number) (stays x xs) ∙ ap (λ (i : ℕ). Some i) (h.0 ∙ here)
           ∙ ap (option_map (λ i. n + i)) (sym (position_here (is_match is_eq sought) (cells x) (map cells xs) e))
       at false e k = k ∙ sym (position_later (is_match is_eq sought) (cells x) (map cells xs) n e)
+
+  -- the first equal one is what a look for it finds
+  pub found_first : (xs : List ℕ) → found_in FirstEqual None xs ≡ find (λ c. is_match is_eq sought (cells c)) xs
+  found_first [] = refl
+  found_first (x ∷ xs) = at (is_match is_eq sought (cells x)) (found_first xs)
+    where
+      at : (b : Bool) → found_in FirstEqual None xs ≡ find (λ c. is_match is_eq sought (cells c)) xs → found_in FirstEqual (cond (b && true) (Some x) None) xs ≡ cond b (Some x) (find (λ c. is_match is_eq sought (cells c)) xs)
+      at true k = stays x xs
+      at false k = k
 
   -- the numbers of the values that pass
   abbrev numbers_passing : (Value → Bool) → ℕ → List Value → List ℕ

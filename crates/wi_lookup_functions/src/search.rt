@@ -1,13 +1,13 @@
 //! A search along one row or one column.
 
-ghost use Rattle.std.specs.Prelude.{◌≡◌, ◌<◌, length, map, ok_or, true, IfOk};
+ghost use Rattle.std.specs.Prelude.{◌≡◌, ◌<◌, length, map, ok_or, true, IfOk, IfErr, IfSome};
 ghost use Rattle.std.specs.Ordering.{is_eq};
 ghost use Rattle.wi_values.specs.Address.{cells_of};
 ghost use Rattle.wi_values.specs.declared.value.ErrorKind.TheVariants.{NotAvailable};
 ghost use Rattle.wi_standard_functions.specs.Matching.{is_match};
 ghost use Rattle.wi_lookup_functions.specs.Inner.Finding.{Agrees, IsMissingIn};
 ghost use Rattle.wi_lookup_functions.specs.Inner.Lines.{is_line};
-ghost use Rattle.wi_lookup_functions.specs.Inner.Search.{is_decided, passes, position_by};
+ghost use Rattle.wi_lookup_functions.specs.Inner.Search.{HasFound, is_decided, passes, position_by};
 
 use crate::matching::match_order;
 use crate::region::steps;
@@ -104,8 +104,8 @@ fn is_match_any(rule: Rule, value: &Value, sought: &Value) -> bool
     }
 }
 
-/// The place, from 0, of the value sought along one row or one column. The work grows with the count of its filled
-/// cells up to the one after which nothing is found instead.
+/// The place, from 0, of the value sought along one row or one column. The work is that of `Lookup::first_equal` where
+/// that tells it, and else grows with the count of filled cells up to the one after which nothing is found instead.
 pub(crate) fn place_along<L: Lookup>(
     rule: Rule,
     sought: &Value,
@@ -119,16 +119,47 @@ pub(crate) fn place_along<L: Lookup>(
         (λ cells. ok_or (position_by rule sought.now (map cells (cells_of line))) NotAvailable)
         result }
 {
+    match found_along(rule, sought, line, lookup) {
+        Ok(Some(cell)) => Ok(steps(line, cell)),
+        Ok(None) => Err(NoValue::Error(ErrorKind::NotAvailable)),
+        Err(cell) => Err(NoValue::Stopped(cell)),
+    }
+}
+
+/// The cell of the value sought along one row or one column, or the one that is missing. The work is that of
+/// `place_along`.
+fn found_along<L: Lookup>(
+    rule: Rule,
+    sought: &Value,
+    line: Rect,
+    lookup: &L,
+) -> Result<Option<Address>, Address>
+    ensures found { IfOk result (HasFound (L.known_cell lookup.now) line rule sought.now) }
+    ensures missing { IfErr result (IsMissingIn (L.known_cell lookup.now) line) }
+{
+    if let Some(first) = first_told(rule, sought, line, lookup) {
+        return Ok(first);
+    }
     let mut search = Search {
         sought,
         rule,
         found: None,
     };
-    match take_cells(line, lookup, &mut search) {
-        Ok(()) => match search.found {
-            Some(cell) => Ok(steps(line, cell)),
-            None => Err(NoValue::Error(ErrorKind::NotAvailable)),
-        },
-        Err(cell) => Err(NoValue::Stopped(cell)),
+    take_cells(line, lookup, &mut search)?;
+    Ok(search.found)
+}
+
+/// The first cell with the number sought, where that is asked for and told without a search.
+fn first_told<L: Lookup>(
+    rule: Rule,
+    sought: &Value,
+    line: Rect,
+    lookup: &L,
+) -> Option<Option<Address>>
+    ensures { IfSome result (HasFound (L.known_cell lookup.now) line rule sought.now) }
+{
+    match (rule, sought) {
+        (Rule::FirstEqual, Value::Number(_)) => lookup.first_equal(line, sought),
+        _ => None,
     }
 }

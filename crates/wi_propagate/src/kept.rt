@@ -248,6 +248,7 @@ impl KeptCalculator {
         self.pool = question.pool;
         self.carried = Some(question.memo.into_carried());
         self.worlds.keep(world);
+        self.store.index_searched();
         result
     }
 
@@ -302,6 +303,7 @@ impl KeptCalculator {
         self.pool = question.pool;
         self.carried = Some(question.memo.into_carried());
         self.worlds.keep(world);
+        self.store.index_searched();
         result
     }
 }
@@ -360,7 +362,8 @@ impl Calculator for KeptCalculator {
     /// that isn't. Those that the formula reaches are looked up at once, with work that grows with their count where
     /// they are few, and where they are many with that of all. They are copied and hashed where they aren't all, and
     /// aren't the same as for the last such key. Before a key is made, what edits left dirty is flushed, with all that
-    /// depends on what was edited since the last such question.
+    /// depends on what was edited since the last such question. At the end a row or column of constants may get an
+    /// index, in which several questions looked for a number.
     fn value(&mut self, replacements: &[Replacement], at: Address) -> Result<Value, AllocError>
         requires { IsInOrder replacements.now }
         ensures value { IfOk result (λ v. v
@@ -482,8 +485,8 @@ impl Calculator for KeptCalculator {
         self.graph.cone_beyond(cells, watch)
     }
 
-    /// All kept values go, and with them the cones that are known, the replacements of the last questions and the
-    /// arrays for the next. The work grows with what goes.
+    /// All kept values go, and with them the cones that are known, the replacements of the last questions, the arrays
+    /// for the next and the indexes of rows and columns. The work grows with what goes.
     fn forget(&mut self)
         ensures { self.new ≡ emptied self.old }
     {
@@ -491,6 +494,7 @@ impl Calculator for KeptCalculator {
         self.worlds = LastWorlds::new(self.alloc);
         self.plans.forget(self.alloc);
         self.pool = Pool::new(self.alloc);
+        self.store.forget_indexes();
     }
 
     fn evaluations(&self) -> u64 {

@@ -5,3 +5,4 @@ pub mod EditLemmas
 pub mod NextRoom
 pub mod ContentsLemmas
 pub mod Words
+pub mod IndexLemmas

@@ -1,11 +1,14 @@
 -- A sheet within limits, and what edits do to it.
-use Rattle.std.specs.Prelude.{◌≡◌, ℕ, ◌+◌, List, [], ◌∷◌, length, map, Option, Some, None, Result, Ok, Err, nat_lt, nat_le, if◌then◌else◌, Bool, false, ◌&&◌}
-use Rattle.wi_parser.specs.Sheet.{Sheet, constant, with_content}
+use Rattle.std.specs.Prelude.{◌≡◌, ℕ, ◌+◌, List, [], ◌∷◌, filter, length, map, Option, Some, None, Result, Ok, Err, nat_lt, nat_le, if◌then◌else◌, Bool, false, ◌&&◌}
+use Rattle.wi_fraction.specs.Number.{Number as Numbers}
+use Rattle.wi_fraction.specs.Order.{same_parts}
+use Rattle.wi_parser.specs.Sheet.{Sheet, constant, has_formula, with_content}
 use Rattle.wi_parser.specs.declared.content.Content.{Content}
 use Rattle.wi_parser.specs.declared.content.Content.TheVariants.{Constant, Formula}
 use Rattle.wi_store.specs.declared.limits.Limits.{Limits}
 use Rattle.wi_store.specs.declared.fault.StoreFault.{StoreFault}
 use Rattle.wi_store.specs.declared.fault.StoreFault.TheVariants.{Full, EditLimit, Memory}
+use Rattle.wi_values.specs.declared.value.Value.TheVariants.{Number}
 use Rattle.wi_values.specs.Address.{Area, is_within}
 
 -- with the count of accepted edits
@@ -49,3 +52,27 @@ Applies answer (Err Memory) old new = new ≡ old
 abbrev pub is_ahead : Area → Option ℕ → ℕ → Bool
 is_ahead r None a = false
 is_ahead r (Some from) a = nat_le from a && is_within r a
+
+-- the contents of the rectangle
+abbrev pub contents_in : Area → Sheet → Sheet
+contents_in r s = filter (λ e. is_ahead r (Some r.first) e.0) s
+
+-- the content is this number
+abbrev pub is_number : Numbers → Content → Bool
+is_number x (Constant (Number y)) = same_parts y x
+is_number x content = false
+
+-- the first cell with this number
+abbrev pub first_number : Numbers → Sheet → Option ℕ
+first_number x [] = None
+first_number x (e ∷ es) = if is_number x e.1 then Some e.0 else first_number x es
+
+-- no content is a formula
+abbrev pub AreConstants : Sheet → Type 0
+AreConstants [] = Unit {0}
+AreConstants (e ∷ es) = (has_formula (Some e.1) ≡ false) × AreConstants es
+
+-- all contents are constants, and this is the first cell with the number
+pub record IsFirstNumber (s : Sheet) (x : Numbers) (found : Option ℕ) : Type 0 where
+  pub constants : AreConstants s
+  pub first : found ≡ first_number x s

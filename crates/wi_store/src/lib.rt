@@ -3,6 +3,7 @@
 
 mod contents;
 mod fault;
+mod indexes;
 mod limits;
 mod room;
 mod rooms;

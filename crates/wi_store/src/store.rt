@@ -7,17 +7,19 @@ ghost use Rattle.std.specs.List.Sorted.{IsStrictlyIncreasing};
 ghost use Rattle.std.specs.Map.{keys_of};
 ghost use Rattle.wi_values.specs.Address.{is_within, rows, columns};
 ghost use Rattle.wi_parser.specs.Sheet.{content_of, cells_with_formula, has_formula};
-ghost use Rattle.wi_store.specs.Store.{edited, accepted, applied, Applies, is_ahead};
+ghost use Rattle.wi_store.specs.Store.{edited, accepted, applied, Applies, IsFirstNumber, contents_in, is_ahead};
 ghost use Rattle.wi_tiles.specs.Rooms.{AreBetweenEdits, AreInEdit};
 ghost use Rattle.wi_store.specs.Inner.Rooms.{sheet_in, formula_cells};
 ghost use Rattle.wi_store.specs.Inner.Admission.{admitted};
 
 use crate::contents::Contents;
 use crate::fault::StoreFault;
+use crate::indexes::Indexes;
 use crate::limits::Limits;
 use crate::rooms::{NewRoom, Rooms, prepare, room_for};
 use std::alloc::{AllocError, Global};
 use std::marker::Model;
+use wi_fraction::Fraction;
 use wi_parser::{Content, NewContent};
 use wi_tiles::{CellMap, exchange_all, exchange_back, make_rooms, sweep};
 use wi_values::{Address, Rect};
@@ -29,6 +31,8 @@ pub struct Store {
     rooms: Rooms,
     edits: u64,
     limits: Limits,
+    // Of rows and columns that are searched again and again. An edit lets all go.
+    indexes: Indexes,
     alloc: Global,
 }
 
@@ -44,6 +48,7 @@ impl Model for Store {
 
     ghost use Rattle.std.specs.Prelude.{None};
     ghost use Rattle.wi_tiles.specs.Rooms.{AreBetweenEdits};
+    ghost use Rattle.wi_store.specs.Inner.Indexes.{AreIndexesOf};
     ghost use Rattle.wi_store.specs.Inner.Rooms.{sheet_in};
 
     ghost view = { λ s. record {
@@ -52,7 +57,8 @@ impl Model for Store {
       limits = s.limits;
     } };
 
-    ghost invariant = { λ s. AreBetweenEdits None s.rooms.entries };
+    ghost invariant = { λ s. AreBetweenEdits None s.rooms.entries
+        × AreIndexesOf (sheet_in s.rooms.entries) s.indexes };
 }
 
 impl Store {
@@ -66,6 +72,7 @@ impl Store {
             rooms: CellMap::new(alloc),
             edits: 0,
             limits,
+            indexes: Indexes::new(alloc),
             alloc,
         }
     }
@@ -146,6 +153,7 @@ impl Store {
         ensures { Applies (accepted self.old brought.old) result self.old self.new }
     {
         let before = self.occupied();
+        self.indexes.clear();
         let answer = edit(&mut self.rooms, before, &self.limits, self.edits, brought);
         let occupied = answer.unwrap_or(before);
         sweep(&mut self.rooms, brought, occupied);
@@ -194,6 +202,29 @@ impl Store {
             },
             None => None,
         }
+    }
+
+    /// The first cell of a row or column with a number, in row-major order, where only constants stand in it and an
+    /// index tells it. Else the search is noted. The work grows with the count of indexes alone.
+    pub fn first_with(&self, line: Rect, number: Fraction) -> Option<Option<Address>>
+        ensures { IfSome result (IsFirstNumber (contents_in line self.now.sheet) number) }
+    {
+        self.indexes.first_with(line, number)
+    }
+
+    /// Lets all indexes go, with their memory.
+    pub fn forget_indexes(&mut self)
+        ensures { self.new ≡ self.old }
+    {
+        self.indexes = Indexes::new(self.alloc);
+    }
+
+    /// Makes the index of the row or column that was searched last without one, where it was searched so often that it
+    /// pays. The work is that of `contents_from`, with a hash for each number. If memory runs out, there is none.
+    pub fn index_searched(&mut self)
+        ensures { self.new ≡ self.old }
+    {
+        self.indexes.make(self.alloc, &self.rooms);
     }
 
     /// The contents of a rectangle with their cells, in row-major order, at a cell or after it. Made in constant time;

@@ -125,9 +125,9 @@ module _ {S : Type 0} (after : S → ℕ → Value → S) (passes_empty : Passes
   first old new c x es fs asc h k = first_ahead r h.start c x s fs asc (sym h.rest ∙ k)
 
   -- the next one is handed over
-  pub one_more : StandsBefore s w r from limit → (old new more : S) (c : ℕ) (x : Content) (l : LookedUp) (v : Value) (es fs : Sheet) → IsStrictlyIncreasing (keys_of s) → AreHanded old new es → es ≡ (c, x) ∷ fs → ComesBefore c limit →
-      value_if_known l ≡ known_in (Some x) (found_value f c) → value_if_known l ≡ Some v → more ≡ after new c v → AreHanded old more fs
-  one_more stays old new more c x l v es fs order h k b e g n =
+  pub one_known : StandsBefore s w r from limit → (old new more : S) (c : ℕ) (x : Content) (v : Value) (es fs : Sheet) → IsStrictlyIncreasing (keys_of s) → AreHanded old new es → es ≡ (c, x) ∷ fs → ComesBefore c limit →
+      Some v ≡ known_in (Some x) (found_value f c) → more ≡ after new c v → AreHanded old more fs
+  one_known stays old new more c x v es fs order h k b e n =
       record {
         start = c + 1;
         begins = omega (arith, h.begins, lies.1);
@@ -137,7 +137,7 @@ module _ {S : Type 0} (after : S → ℕ → Value → S) (passes_empty : Passes
             joined after (cell_known s w f) r old new more (Some from) (Some h.start) (Some (c + 1)) h.taken
             (moves_on after passes_empty (cell_known s w f) r new more h.start c v lies.0 lies.1
             (λ a i m z. empty_there stays h.start a h.begins i m (before_limit c a limit z b) (none_up_to r h.start a s es asc h.rest i m (subst (λ (xs : Sheet). ComesBefore a (first_key xs)) (sym k) z)))
-            (sym g ∙ e ∙ sym (known_here stays h.start c x fs h.begins here b)) n);
+            (e ∙ sym (known_here stays h.start c x fs h.begins here b)) n);
       }
     where
       asc : Ascends s
@@ -148,6 +148,10 @@ module _ {S : Type 0} (after : S → ℕ → Value → S) (passes_empty : Passes
 
       lies : (is_within r c ≡ true) × (h.start ≤ c)
       lies = ahead_means r h.start c here.ahead
+
+  pub one_more : StandsBefore s w r from limit → (old new more : S) (c : ℕ) (x : Content) (l : LookedUp) (v : Value) (es fs : Sheet) → IsStrictlyIncreasing (keys_of s) → AreHanded old new es → es ≡ (c, x) ∷ fs → ComesBefore c limit →
+      value_if_known l ≡ known_in (Some x) (found_value f c) → value_if_known l ≡ Some v → more ≡ after new c v → AreHanded old more fs
+  one_more stays old new more c x l v es fs order h k b e g n = one_known stays old new more c x v es fs order h k b (sym g ∙ e) n
 
   -- where nothing is left before the limit, all are
   pub all_handed : StandsBefore s w r from limit → (old new : S) (es : Sheet) → IsStrictlyIncreasing (keys_of s) → AreHanded old new es → ((a : ℕ) → ComesBefore a limit → ComesBefore a (first_key es)) → HasTaken after (cell_known s w f) r old (Some from) new limit

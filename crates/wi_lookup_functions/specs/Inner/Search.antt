@@ -1,10 +1,12 @@
 -- What a search through cells has found.
-use Rattle.std.specs.Prelude.{ℕ, pos, Bool, true, false, not, ◌&&◌, int_lt, if◌then◌else◌, List, position, Option, Some, None}
+use Rattle.std.specs.Prelude.{◌≡◌, ℕ, pos, Bool, true, false, not, ◌&&◌, int_lt, if◌then◌else◌, List, fold, position, Option, Some, None}
 use Rattle.std.specs.Ordering.{int_eq, is_eq, is_le, is_ge}
 use Rattle.std.specs.declared.cmp.Ordering.{Ordering}
 use Rattle.wi_fraction.specs.Number as numbers
+use Rattle.wi_values.specs.Address.{Area, cells_of}
 use Rattle.wi_values.specs.declared.value.Value.{Value}
 use Rattle.wi_standard_functions.specs.Matching.{is_match, last_position}
+use Rattle.wi_lookup_functions.specs.Inner.Finding.{WhateverHeld}
 use Rattle.wi_lookup_functions.specs.declared.rule.Rule.{Rule}
 use Rattle.wi_lookup_functions.specs.declared.rule.Rule.TheVariants.{FirstEqual, LastAtMost, LastAtLeast}
 
@@ -24,6 +26,10 @@ is_decided LastAtLeast o = false
 -- what is found after a cell with this value
 abbrev pub found_after : Rule → Value → Option ℕ → ℕ → Value → Option ℕ
 found_after rule sought o c v = if is_match (passes rule) sought v && not (is_decided rule o) then Some c else o
+
+-- what is found of the rectangle, whatever the cells hold of which nothing is known
+abbrev pub HasFound : (ℕ → Option Value) → Area → Rule → Value → Option ℕ → Type 0
+HasFound known r rule sought found = WhateverHeld known (λ cells. found ≡ fold (λ o c. found_after rule sought o c (cells c)) None (cells_of r))
 
 -- the place that is found in a list, from 0
 abbrev pub position_by : Rule → Value → List Value → Option ℕ

@@ -1,7 +1,7 @@
-use Rattle.wi_propagate.proofs.Words.{Some, is_ok, ◌≡◌, ◌∙◌, inl, inr, IfOk, OnOk, List, false, true, refl, ap, sym, subst, IfOk-weaker, Replacement, content_of, has_formula, put_all, circular, shown, case_of, reaching, demanded, HasCase, demands_itself, different_closed, shown_circular, shown_value, KeptSheet, generation_in, IsAtHand, is_kept, flushed, stamped_in, Owes}
+use Rattle.wi_propagate.proofs.Words.{Some, is_ok, ◌≡◌, ◌∙◌, inl, inr, IfOk, OnOk, List, false, true, refl, ap, sym, subst, IfOk-weaker, Replacement, content_of, has_formula, put_all, circular, shown, case_of, reaching, demanded, HasCase, demands_itself, different_closed, shown_circular, shown_value, KeptSheet, Stored, generation_in, IsAtHand, is_kept, flushed, stamped_in, Owes}
 use Rattle.wi_propagate.proofs.StampSteps.{all_stamped}
 use Rattle.wi_propagate.proofs.HeadSteps.{stamped_over}
-use Rattle.wi_propagate.proofs.Questions.{but_plans, with_plans, begins, begun_right, may_be_read, asked_kept, at_hand_is, owes_none, owes_flushed, owes_spent, flushed_view, settled_right, holds_asked, holds_settled}
+use Rattle.wi_propagate.proofs.Questions.{AlwaysPlans, but_plans, with_plans, begins, begun_right, may_be_read, asked_kept, at_hand_is, owes_none, owes_flushed, owes_spent, flushed_view, settled_right, holds_asked, holds_settled}
 use Rattle.wi_propagate.proofs.kept.KeptCalculator.value_of.Goals as goal
 
 pub returns-then-is_circular-clause-value : goal.returns-then-is_circular-clause-value
@@ -58,10 +58,11 @@ pub invariant_of-self-2 : goal.invariant_of-self-2
 invariant_of-self-2 c =
     let i = c.self.inside in
     let e = c.planned_cell-result.ensures.values in
-    with_plans (Some c.into_carried.result) i.graph i.store c.flush.new.self c.planned_cell-result.new.question.meter c.planned_cell-result.new.plans (holds_asked i.carried i.graph i.store c.flush.new.self i.meter c.planned_cell-result.new.question.meter c.new-memo.result c.planned_cell-result.new.question.memo c.into_carried.result
+    subst (λ (s : Stored). AlwaysPlans (Some c.into_carried.result) i.graph s c.flush.new.self c.planned_cell-result.new.question.meter c.planned_cell-result.new.plans) (sym c.index_searched.ensures)
+    (with_plans (Some c.into_carried.result) i.graph i.store c.flush.new.self c.planned_cell-result.new.question.meter c.planned_cell-result.new.plans (holds_asked i.carried i.graph i.store c.flush.new.self i.meter c.planned_cell-result.new.question.meter c.new-memo.result c.planned_cell-result.new.question.memo c.into_carried.result
     (begins i.store (flushed i.store.sheet c.flush.new.self.edited_at) i.carried i.meter _ c.new-memo.result c.take_carried-carried.ensures.values c.new-memo.ensures.value c.new-memo.ensures.placed)
     e.spends.same c.into_carried.ensures.kept e.spends.right.sheet c.into_carried.ensures.right c.into_carried.ensures.cones
-    (holds_settled i.carried i.graph i.store i.generations c.flush.new.self i.meter c.in_ok-flush.ensures.edited_at (c.in_ok-flush.ensures.stamped i.store.sheet c.self.invariant.1) (but_plans i.carried i.graph i.store i.generations i.meter i.plans c.self.invariant))) c.planned_cell-result.ensures.plans
+    (holds_settled i.carried i.graph i.store i.generations c.flush.new.self i.meter c.in_ok-flush.ensures.edited_at (c.in_ok-flush.ensures.stamped i.store.sheet c.self.invariant.1) (but_plans i.carried i.graph i.store i.generations i.meter i.plans c.self.invariant))) c.planned_cell-result.ensures.plans)
 
 pub returns-clause-value : goal.returns-clause-value
 returns-clause-value c =
@@ -85,11 +86,12 @@ returns-clause-kept c =
     let view = flushed_view {s = i.store} c.in_ok-flush.ensures.edited_at i.carried i.meter c.args.self.now c.self.view_is in
     let o : circular i.store.sheet c.args.at ≡ false = sym (c.is_circular.ensures i.store.sheet c.self.invariant.1) ∙ c.if-is_circular.false in
     let q = begins i.store (flushed i.store.sheet c.flush.new.self.edited_at) i.carried i.meter _ c.new-memo.result c.take_carried-carried.ensures.values c.new-memo.ensures.value c.new-memo.ensures.placed in
-    let new : KeptSheet = record { stored = i.store; generations = flushed i.store.sheet c.flush.new.self.edited_at; values = c.into_carried.result.value.kept; counts = c.planned_cell-result.new.question.meter } in
+    let new : Stored → KeptSheet = λ s. record { stored = s; generations = flushed s.sheet c.flush.new.self.edited_at; values = c.into_carried.result.value.kept; counts = c.planned_cell-result.new.question.meter } in
     let e = c.planned_cell-result.ensures.values in
-    subst (λ (x : KeptSheet). OnOk c.planned_cell-result.result ((IsAtHand x c.args.replacements.now c.args.at → ⊥) → is_kept new c.args.at (reaching x.stored.sheet c.args.at c.args.replacements.now) ≡ true)) view
+    subst (λ (s : Stored). OnOk c.planned_cell-result.result ((IsAtHand c.args.self.now c.args.replacements.now c.args.at → ⊥) → is_kept (new s) c.args.at (reaching c.args.self.now.stored.sheet c.args.at c.args.replacements.now) ≡ true)) (sym c.index_searched.ensures)
+    (subst (λ (x : KeptSheet). OnOk c.planned_cell-result.result ((IsAtHand x c.args.replacements.now c.args.at → ⊥) → is_kept (new i.store) c.args.at (reaching x.stored.sheet c.args.at c.args.replacements.now) ≡ true)) view
     (IfOk-weaker c.planned_cell-result.result _ _ (λ v h. asked_kept q c.in_ok-world.world c.args.replacements.now c.args.at o c.in_ok-world.ensures c.planned_cell-result.new.question.memo c.into_carried.result.value.kept c.planned_cell-result.new.question.meter
-    e.spends.same c.into_carried.ensures.kept c.self.invariant.3.space h) e.kept)
+    e.spends.same c.into_carried.ensures.kept c.self.invariant.3.space h) e.kept))
 
 pub new-memo-requires-clause-cones : goal.new-memo-requires-clause-cones
 new-memo-requires-clause-cones c = c.take_carried-carried.ensures.cones c.self.inside.store.sheet c.self.invariant.4
@@ -124,9 +126,10 @@ returns-clause-owes c =
     let has = demands_itself i.store.sheet c.in_ok-world.world c.args.replacements.now c.args.at o c.in_ok-world.ensures in
     let closed = different_closed i.store.sheet (case_of i.store.sheet c.args.replacements.now c.args.at) in
     let Has = HasCase i.store.sheet c.in_ok-world.world c.args.at in
-    let new : KeptSheet = record { stored = i.store; generations = flushed i.store.sheet c.flush.new.self.edited_at; values = c.into_carried.result.value.kept; counts = c.planned_cell-result.new.question.meter } in
-    subst (λ (x : KeptSheet). Owes x new (demanded x.stored.sheet c.args.replacements.now c.args.at) (is_ok c.planned_cell-result.result)) view
-    (owes_spent q c.planned_cell-result.new.question.memo c.into_carried.result.value.kept c.planned_cell-result.new.question.meter c.into_carried.ensures.kept c.into_carried.ensures.within Has (demanded i.store.sheet c.args.replacements.now c.args.at) closed has _ c.planned_cell-result.ensures.values.spends)
+    let new : Stored → KeptSheet = λ s. record { stored = s; generations = flushed s.sheet c.flush.new.self.edited_at; values = c.into_carried.result.value.kept; counts = c.planned_cell-result.new.question.meter } in
+    subst (λ (s : Stored). Owes c.args.self.now (new s) (demanded c.args.self.now.stored.sheet c.args.replacements.now c.args.at) (is_ok c.planned_cell-result.result)) (sym c.index_searched.ensures)
+    (subst (λ (x : KeptSheet). Owes x (new i.store) (demanded x.stored.sheet c.args.replacements.now c.args.at) (is_ok c.planned_cell-result.result)) view
+    (owes_spent q c.planned_cell-result.new.question.memo c.into_carried.result.value.kept c.planned_cell-result.new.question.meter c.into_carried.ensures.kept c.into_carried.ensures.within Has (demanded i.store.sheet c.args.replacements.now c.args.at) closed has _ c.planned_cell-result.ensures.values.spends))
 
 pub flush-requires-clause-stamped : goal.flush-requires-clause-stamped
 flush-requires-clause-stamped c = λ s a. stamped_over c.self.inside.graph.now c.self.inside.store.sheet s c.self.inside.generations c.self.invariant.1 a c.self.invariant.5.stamped

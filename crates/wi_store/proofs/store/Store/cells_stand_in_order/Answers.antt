@@ -6,4 +6,4 @@ pub returns : goal.returns
 returns c =
     let rooms = c.self.inside.rooms.entries in
     subst (λ (s : Stored). IsStrictlyIncreasing (keys_of s.sheet)) c.self.view_is
-    (IsStrictlyIncreasing-from_sorted _ (order-from_Ascends (sheet_in rooms) (Ascends-sheet_in rooms (Ascends-from_order rooms c.self.invariant.order))))
+    (IsStrictlyIncreasing-from_sorted _ (order-from_Ascends (sheet_in rooms) (Ascends-sheet_in rooms (Ascends-from_order rooms c.self.invariant.0.order))))

@@ -6,5 +6,5 @@ pub returns : goal.returns
 returns c =
     subst (λ (cs : List ℕ). IfOk c.formula_cells.result (λ found. found.items ≡ cs))
     (ap formula_cells c.all.ensures ∙ ap (λ (s : Stored). formula_cells s.sheet) c.self.view_is
-    ∙ formulas_of c.self.inside.rooms.entries c.args.self.now.sheet c.self.invariant.order (ap (λ (s : Stored). s.sheet) c.self.view_is))
+    ∙ formulas_of c.self.inside.rooms.entries c.args.self.now.sheet c.self.invariant.0.order (ap (λ (s : Stored). s.sheet) c.self.view_is))
     c.formula_cells.ensures

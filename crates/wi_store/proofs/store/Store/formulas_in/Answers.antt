@@ -6,5 +6,5 @@ pub returns : goal.returns
 returns c =
     subst (λ (cs : List ℕ). IfOk c.formula_cells.result (λ found. found.items ≡ cs))
     (ap formula_cells c.contents_from.ensures
-    ∙ formulas_within c.args.area c.first.result c.self.inside.rooms.entries c.args.self.now.sheet c.self.invariant.order (ap (λ (s : Stored). s.sheet) c.self.view_is) c.first.ensures)
+    ∙ formulas_within c.args.area c.first.result c.self.inside.rooms.entries c.args.self.now.sheet c.self.invariant.0.order (ap (λ (s : Stored). s.sheet) c.self.view_is) c.first.ensures)
     c.formula_cells.ensures

@@ -6,4 +6,4 @@ pub returns-clause-edits : goal.returns-clause-edits
 returns-clause-edits c = search rules
 
 pub invariant_of-result : goal.invariant_of-result
-invariant_of-result c = none_at_all c.new.result.entries c.new.ensures
+invariant_of-result c = (none_at_all c.new.result.entries c.new.ensures, c.new-2.ensures _)

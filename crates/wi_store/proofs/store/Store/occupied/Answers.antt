@@ -5,5 +5,5 @@ use Rattle.wi_store.proofs.store.Store.occupied.Goals as goal
 pub returns : goal.returns
 returns c =
     c.len.ensures.len
-    ∙ sym (length-sheet_in c.self.inside.rooms.entries c.self.invariant)
+    ∙ sym (length-sheet_in c.self.inside.rooms.entries c.self.invariant.0)
     ∙ ap (λ (s : Stored). length s.sheet) c.self.view_is
