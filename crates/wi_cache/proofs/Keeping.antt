@@ -27,7 +27,7 @@ none_is_some (Some x) e h = none-some x (sym e)
 
 -- ---- entries that stand in a circle, told from the last that came to the first
 
-latest_permutes : (n : ℕ) (es : Entries) → IsPermutation es (latest n es)
+pub latest_permutes : (n : ℕ) (es : Entries) → IsPermutation es (latest n es)
 latest_permutes n es =
     let turned = drop n es ++ take n es in
     let is : IsPermutation es turned = subst (λ (l : Entries). IsPermutation l turned) (take-append-drop n es) (IsPermutation-append_comm (take n es) (drop n es)) in
@@ -53,7 +53,7 @@ module _ {X : Type 0} where
   pushed_at [] x = refl
   pushed_at (y ∷ xs) x = let more : length (y ∷ xs) ≡ suc (length xs) = omega arith in ap (slice_get (y ∷ xs ++ x ∷ [])) more ∙ pushed_at xs x
 
-  stands : (xs : List X) (i : ℕ) → i < length xs → (x : X) × (slice_get xs i ≡ Some x)
+  pub stands : (xs : List X) (i : ℕ) → i < length xs → (x : X) × (slice_get xs i ≡ Some x)
   stands [] i h = absurd (omega arith)
   stands (x ∷ xs) zero h = (x, refl)
   stands (x ∷ xs) (suc i) h = stands xs i (omega (arith, h))

@@ -1,4 +1,5 @@
 pub mod Callers
 pub mod Keeping
 pub mod Keys
+pub mod TextLens
 pub mod Went

@@ -1,5 +1,5 @@
 -- Values by keys.
-use Rattle.std.specs.Prelude.{◌≡◌, ℕ, ◌+◌, ◌-◌, ◌%◌, ◌<◌, ◌≤◌, ◌⊎◌, Bool, List, ◌∷◌, ◌++◌, length, take, drop, reverse, slice_get, min, Option, Some, None, IsSome, is_some, nat_lt, refl, if◌then◌else◌}
+use Rattle.std.specs.Prelude.{◌≡◌, ℕ, ◌+◌, ◌-◌, ◌/◌, ◌%◌, ◌<◌, ◌≤◌, ◌⊎◌, Bool, List, ◌∷◌, ◌++◌, length, sum_by, take, drop, reverse, slice_get, min, Option, Some, None, IsSome, is_some, nat_le, nat_lt, refl, if◌then◌else◌}
 use Rattle.std.specs.List.{IsDistinct}
 use Rattle.std.specs.Map.{keys_of, lookup, update}
 use Rattle.std.specs.Coded.{Coded, code_by, coded×, coded_list, coded_ℕ}
@@ -7,6 +7,7 @@ use Rattle.std.specs.Int.{bit_at}
 use Rattle.indexmap.specs.IndexMap.{insert_all}
 use Rattle.wi_values.specs.declared.replacement.Replacement.{Replacement}
 use Rattle.wi_values.specs.declared.value.Value.{Value}
+use Rattle.wi_values.specs.declared.value.Value.TheVariants.{Text}
 use Rattle.wi_worlds.specs.Inner.Compared.{digest_of}
 use Rattle.wi_cache.specs.declared.key.Key.{Key}
 use Rattle.wi_cache.specs.contracts.key.KeyPartialEq.TheImpl as equality
@@ -51,6 +52,19 @@ kept es n = record { entries = es; capacity = n }
 
 abbrev pub kept_code : Coded Key → Coded Value → Coded KeptValues
 kept_code k v = code_by (Entries × ℕ) (coded× (coded_list (coded× k v)) coded_ℕ) (λ m. (m.entries, m.capacity)) (λ p. kept p.0 p.1) (λ _. refl)
+
+-- how many bytes of text a value has
+abbrev pub text_len : Value → ℕ
+text_len (Text t) = length t
+text_len v = 0
+
+-- and all that are kept
+abbrev pub texts_len : Entries → ℕ
+texts_len es = sum_by (λ e. text_len e.1) es
+
+-- the values that are kept have as many KiB of text as there may be values
+abbrev pub has_long_texts : KeptValues → Bool
+has_long_texts m = nat_le m.capacity (texts_len m.entries / 1024)
 
 -- what stands in a circle, of which the one at a place came first, then those behind it, and then those before it: the
 -- last that came first

@@ -3,13 +3,17 @@
 ghost use Rattle.std.specs.Prelude.{◌≡◌, ◌<◌, ◌≤◌, [], nat_le, length, Some, None, IfOk, OnOk, OnErr};
 ghost use Rattle.std.specs.Map.{keys_of};
 ghost use Rattle.std.specs.Option.{option_copied};
-ghost use Rattle.wi_cache.specs.Entries.{HasOneEach, HasSpace, PutsIn, PutsForGoing, PutsForOne, going, kept, keys_after, len_after, place_after, value_for};
+ghost use Rattle.wi_cache.specs.Entries.{HasOneEach, HasSpace, PutsIn, PutsForGoing, PutsForOne, going, has_long_texts, kept, keys_after, len_after, place_after, value_for};
 
 use crate::key::Key;
+use crate::texts::{earlier_len, gone_len, text_len};
 use indexmap::IndexMap;
 use std::alloc::{AllocError, Global};
 use std::marker::Model;
 use wi_values::Value;
+
+/// How many bytes of text there may be for each value that may be kept.
+const TEXT_FOR_EACH: usize = 1_024;
 
 /// Values by keys, of which there are at most so many as the capacity. Where one has to go, it is the entry that was
 /// kept longest ago, however often it was looked at since: a look leaves the order as it is.
@@ -20,10 +24,13 @@ pub struct Kept {
     // Where the entry stands that was kept longest ago. Those behind it came after it, and then those before it.
     oldest: usize,
     capacity: usize,
+    // How many bytes of text the values have.
+    texts: usize,
 }
 
 impl Model for Kept {
-    ghost use Rattle.wi_cache.specs.Entries.{KeptValues, IsLine, kept, kept_code, latest};
+    ghost use Rattle.std.specs.Prelude.{◌≡◌};
+    ghost use Rattle.wi_cache.specs.Entries.{KeptValues, IsLine, kept, kept_code, latest, texts_len};
     ghost use Rattle.wi_cache.specs.contracts.key.Key as key;
     ghost use Rattle.wi_values.specs.contracts.value.Value as value;
 
@@ -33,7 +40,8 @@ impl Model for Kept {
 
     ghost view = { λ k. kept (latest k.oldest k.entries.entries) k.capacity };
 
-    ghost invariant = { λ k. IsLine k.entries.entries k.oldest k.capacity };
+    ghost invariant = { λ k. IsLine k.entries.entries k.oldest k.capacity
+        × (k.texts ≡ texts_len k.entries.entries) };
 }
 
 impl Kept {
@@ -46,6 +54,7 @@ impl Kept {
             entries: IndexMap::new(alloc),
             oldest: 0,
             capacity,
+            texts: 0,
         })
     }
 
@@ -61,6 +70,13 @@ impl Kept {
         ensures { result ≡ nat_le self.now.capacity (length self.now.entries) }
     {
         self.capacity <= self.entries.len()
+    }
+
+    /// Whether the values have as many KiB of text as there may be values.
+    pub fn has_long_texts(&self) -> bool
+        ensures { result ≡ has_long_texts self.now }
+    {
+        self.capacity <= self.texts / TEXT_FOR_EACH
     }
 
     /// Keeps a value for a key, in the place of an earlier one, and gives the entry that goes for it. A new key that
@@ -81,9 +97,14 @@ impl Kept {
         ensures capacity { self.new.capacity ≡ self.old.capacity }
         ensures err { OnErr result (self.new ≡ self.old) }
     {
-        self.entries.insert(key, value)?;
+        let Some(texts) = self.texts.checked_add(text_len(&value)) else {
+            return Err(AllocError);
+        };
+        let earlier = self.entries.insert(key, value)?;
+        self.texts = texts - earlier_len(earlier);
         if self.entries.len() > self.capacity {
             let gone = self.entries.swap_remove_index(self.oldest);
+            self.texts -= gone_len(&gone);
             self.oldest = place_after(self.oldest, self.capacity);
             return Ok(gone);
         }
@@ -96,6 +117,7 @@ impl Kept {
     {
         self.entries = IndexMap::new(alloc);
         self.oldest = 0;
+        self.texts = 0;
     }
 
     /// How many values are kept.

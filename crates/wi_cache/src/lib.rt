@@ -7,6 +7,7 @@ mod kept;
 mod key;
 pub mod laws;
 mod run_table;
+mod texts;
 
 pub use given_up::GivenUp;
 pub use kept::Kept;

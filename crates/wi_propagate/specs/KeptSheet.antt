@@ -1,5 +1,5 @@
 -- A sheet whose values are kept from one question to the next, and what that saves.
-use Rattle.std.specs.Prelude.{◌≡◌, ◌⊎◌, ◌<◌, ◌≤◌, ◌+◌, ◌-◌, ◌^◌, ◌&&◌, if◌then◌else◌, ℕ, Bool, true, false, not, List, [], filter, length, is_some}
+use Rattle.std.specs.Prelude.{◌≡◌, ◌⊎◌, ◌<◌, ◌≤◌, ◌+◌, ◌-◌, ◌^◌, ◌&&◌, ◌||◌, ◌==◌, if◌then◌else◌, ℕ, Bool, true, false, not, List, [], filter, length, is_some}
 use Rattle.std.specs.Option.{unwrap_or}
 use Rattle.std.specs.Ordering.{nat_cmp}
 use Rattle.std.specs.Map.{keys_of, lookup}
@@ -9,7 +9,7 @@ use Rattle.wi_parser.specs.Sheet.{content_of, put_all, has_formula}
 use Rattle.wi_functions.specs.Counts.{Counts}
 use Rattle.wi_store.specs.Store.{Stored}
 use Rattle.wi_cache.specs.declared.key.Key.{Key}
-use Rattle.wi_cache.specs.Entries.{KeptValues, kept, value_for}
+use Rattle.wi_cache.specs.Entries.{KeptValues, has_long_texts, kept, texts_len, value_for}
 use Rattle.wi_graph.specs.Circular.{circular}
 use Rattle.wi_graph.specs.Reach.{in_cone}
 use Rattle.wi_sheet.specs.Demand.{Case, reaching}
@@ -61,6 +61,14 @@ KeepsOld old new = (q : Key) → stands old q ≡ true → stands new q ≡ true
 -- all values go that are kept, and there is room for as many as before
 abbrev pub emptied : KeptSheet → KeptSheet
 emptied k = record k { values = kept [] k.values.capacity }
+
+-- the values that are kept have no text, or fewer KiB of it than there may be values
+abbrev pub is_light : KeptSheet → Bool
+is_light k = texts_len k.values.entries == 0 || not (has_long_texts k.values)
+
+-- where they have as many, all go
+abbrev pub lightened : KeptSheet → KeptSheet
+lightened k = if has_long_texts k.values then emptied k else k
 
 -- ---- what an edit makes of it
 

@@ -31,6 +31,9 @@ pub trait Calculator {
     /// The count of evaluations begun again that it tells.
     ghost restarted: { Self → ℕ };
 
+    /// Whether what it keeps from one question to the next is within the bounds that it has for that.
+    ghost is_light: { Self → Bool };
+
     /// Which cells it marks where these cells of a sheet change.
     ghost marked: { Sheet → List ℕ → ℕ → Bool };
 
@@ -137,6 +140,13 @@ pub trait Calculator {
         ensures same_evaluations { evaluated self.new ≡ evaluated self.old }
         ensures same_restarts { restarted self.new ≡ restarted self.old }
     {}
+
+    /// As `forget`, but only where it isn't light.
+    fn lighten(&mut self)
+        ensures light { is_light self.new ≡ true }
+        ensures same { stored self.new ≡ stored self.old }
+        ensures same_evaluations { evaluated self.new ≡ evaluated self.old }
+        ensures same_restarts { restarted self.new ≡ restarted self.old };
 
     fn evaluations(&self) -> u64
         ensures { result ≡ evaluated self.now };

@@ -2,7 +2,7 @@
 
 ghost use Rattle.std.specs.Prelude.{◌≡◌, ◌≤◌, [], IfSome, IsSome, IfOk};
 ghost use Rattle.wi_parser.specs.Sheet.{Sheet};
-ghost use Rattle.wi_cache.specs.Entries.{kept};
+ghost use Rattle.wi_cache.specs.Entries.{has_long_texts, kept};
 ghost use Rattle.wi_graph.specs.Edges.{AreEdgesOf};
 ghost use Rattle.wi_propagate.specs.Inner.Cones.{AreAllCones};
 ghost use Rattle.wi_propagate.specs.Inner.Keeping.{values_in, AreCarriedCones};
@@ -66,6 +66,17 @@ pub(crate) fn forget_carried(alloc: Global, carried: &mut Option<Box<Carried>>)
     match carried {
         Some(carried) => carried.forget(alloc),
         None => {}
+    }
+}
+
+/// Whether the values that are kept have as many KiB of text as there may be values.
+#[inline(always)]
+pub(crate) fn has_long_texts(carried: &Option<Box<Carried>>) -> bool
+    ensures { result ≡ has_long_texts (values_in carried.now) }
+{
+    match carried {
+        Some(carried) => carried.kept.has_long_texts(),
+        None => false,
     }
 }
 

@@ -18,11 +18,11 @@ ghost use Rattle.wi_sheet.specs.Demand.{reaching, demanded, wants};
 ghost use Rattle.wi_sheet.specs.Settled.{IsWhatIfSettled};
 ghost use Rattle.wi_sheet.specs.Unmoved.{IsUnmoved};
 ghost use Rattle.wi_propagate.specs.Inner.Owes.{Owes};
-ghost use Rattle.wi_propagate.specs.KeptSheet.{IsEdit, emptied, generation_in, is_kept, unkept, IsAtHand, HasSpaceFor, KeepsAll, KeepsNoMore, KeepsWhileSpace};
+ghost use Rattle.wi_propagate.specs.KeptSheet.{IsEdit, emptied, is_light, lightened, generation_in, is_kept, unkept, IsAtHand, HasSpaceFor, KeepsAll, KeepsNoMore, KeepsWhileSpace};
 ghost use Rattle.wi_propagate.specs.Right.{AreKeptRight};
 
 use crate::calculator::Calculator;
-use crate::carried::{Carried, carry_over_edit, forget_carried, take_carried};
+use crate::carried::{Carried, carry_over_edit, forget_carried, has_long_texts, take_carried};
 use crate::generations::Generations;
 use crate::keeping::Keeping;
 use crate::last_worlds::LastWorlds;
@@ -318,6 +318,8 @@ impl Calculator for KeptCalculator {
 
     ghost restarted = { λ k. k.counts.restarts };
 
+    ghost is_light = { is_light };
+
     ghost marked = { in_cone };
 
     fn content(&self, at: Address) -> Option<&Content> {
@@ -495,6 +497,17 @@ impl Calculator for KeptCalculator {
         self.plans.forget(self.alloc);
         self.pool = Pool::new(self.alloc);
         self.store.forget_indexes();
+    }
+
+    /// All kept values go, with what `forget` says, where they have as many KiB of text as there may be values.
+    #[inline(always)]
+    fn lighten(&mut self)
+        ensures lightened { self.new ≡ lightened self.old }
+        ensures light { is_light self.new ≡ true }
+    {
+        if has_long_texts(&self.carried) {
+            self.forget();
+        }
     }
 
     fn evaluations(&self) -> u64 {

@@ -36,6 +36,7 @@ impl PlainCalculator {
 }
 
 impl Calculator for PlainCalculator {
+    ghost use Rattle.std.specs.Prelude.{true};
     ghost use Rattle.wi_propagate.specs.Inner.Plain.{stored_of, counts_of, has_formula_or_is_one_of};
     ghost use Rattle.wi_sheet.proofs.Marks.{formulas_mark};
 
@@ -44,6 +45,8 @@ impl Calculator for PlainCalculator {
     ghost evaluated = { λ c. (counts_of c).evaluations };
 
     ghost restarted = { λ c. (counts_of c).restarts };
+
+    ghost is_light = { λ c. true };
 
     ghost marked = { has_formula_or_is_one_of };
 
@@ -100,6 +103,8 @@ impl Calculator for PlainCalculator {
         marked.extend_from_slice(cells)?;
         Ok(marked)
     }
+
+    fn lighten(&mut self) {}
 
     fn evaluations(&self) -> u64 {
         self.meter.evaluations()

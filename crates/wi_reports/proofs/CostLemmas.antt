@@ -2,13 +2,13 @@
 use Rattle.wi_reports.proofs.Words.{◌≡◌, ℕ, ◌+◌, ◌-◌, ◌<◌, ◌≤◌, add-one, List, ◌∷◌, ◌++◌, length, map, sym, ap, ◌∙◌, subst, arith, sum_by, sum_by-append, length-append, flat_map, flat_map-append, range_with_len, Area, place, column_of, cells_of_row, is_column, true, Sheet, Case, wants, Stored, Costs}
 use Rattle.wi_reports.proofs.RowLemmas.{rows_from, cells_in, row_of_column}
 
--- one question is asked
-pub asked : (s : Sheet) (cases : List Case) {e e' r r' : ℕ} → e' ≤ e + length cases → r' ≤ r + sum_by (wants s) cases → Costs s cases (e, r) (e', r')
-asked s cases evaluations restarts = record { evaluations = evaluations; restarts = restarts }
-
 -- the sheet is as it was
 pub asked_of : (f : Stored → List Case) (stored stored' : Stored) {a b : ℕ × ℕ} → stored' ≡ stored → Costs stored'.sheet (f stored') a b → Costs stored.sheet (f stored) a b
 asked_of f stored stored' {a = a} {b = b} same h = subst (λ (x : Stored). Costs x.sheet (f x) a b) same h
+
+-- one question is asked, and then nothing is counted
+pub asked_then : (s : Sheet) (cases : List Case) {e m e' r n r' : ℕ} → m ≤ e + length cases → n ≤ r + sum_by (wants s) cases → e' ≡ m → r' ≡ n → Costs s cases (e, r) (e', r')
+asked_then s cases evaluations restarts i j = record { evaluations = omega (arith, i, evaluations); restarts = omega (arith, j, restarts) }
 
 -- the cases are these
 pub asked_same : {s : Sheet} {xs ys : List Case} {a b : ℕ × ℕ} → xs ≡ ys → Costs s xs a b → Costs s ys a b

@@ -9,6 +9,7 @@ ghost use Rattle.wi_reports.specs.Looks.{Costs, cells_cases};
 ghost use Rattle.wi_reports.specs.Changes.{kind_text, change_records};
 ghost use Rattle.wi_reports.specs.Inner.Parts.{change_record};
 
+use crate::asking::value_under;
 use crate::texts::address_text;
 use std::alloc::{AllocError, Global};
 use wi_csv::push_record;
@@ -42,7 +43,7 @@ pub fn find_changes<C: Calculator>(
 {
     let mut found = Vec::new(alloc);
     for at in cells {
-        let value = calculator.value(replacements, *at)?;
+        let value = value_under(calculator, replacements, *at)?;
         if !picture.has(*at, &value) {
             found.push((*at, value))?;
         }

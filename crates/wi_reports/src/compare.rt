@@ -14,6 +14,7 @@ ghost use Rattle.wi_sheet.specs.Demand.{demanded};
 ghost use Rattle.wi_reports.specs.Looks.{Costs, both_cases, comparison_cases};
 ghost use Rattle.wi_reports.specs.Inner.Parts.{cell_compared, difference_record, number_text};
 
+use crate::asking::value_under;
 use crate::texts::address_text;
 use std::alloc::{AllocError, Global};
 use wi_csv::push_record;
@@ -136,7 +137,7 @@ fn push_cell<C: Calculator>(
         (C.evaluated calculator.old, C.restarted calculator.old)
         (C.evaluated calculator.new, C.restarted calculator.new) }
 {
-    let before = calculator.value(sides.first, at)?;
+    let before = value_under(calculator, sides.first, at)?;
     push_compared(alloc, calculator, &before, sides.second, at, out)
 }
 
@@ -160,7 +161,7 @@ fn push_compared<C: Calculator>(
         (C.evaluated calculator.old, C.restarted calculator.old)
         (C.evaluated calculator.new, C.restarted calculator.new) }
 {
-    let after = calculator.value(second, at)?;
+    let after = value_under(calculator, second, at)?;
     push_difference(alloc, at, before, &after, out)
 }
 

@@ -1,6 +1,7 @@
 //! The records that commands write which only look: what cells show and hold, data tables, comparisons and changes.
 #![tactic(auto)]
 
+mod asking;
 mod changes;
 mod compare;
 mod contents;

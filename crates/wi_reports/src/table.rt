@@ -14,6 +14,7 @@ ghost use Rattle.wi_sheet.specs.TableEntry.{entry_demanded};
 ghost use Rattle.wi_reports.specs.Looks.{Costs, cells_cases, entries_cases, beside_cases, table_cases};
 ghost use Rattle.wi_reports.specs.Inner.Parts.{pairs_at, table_row};
 
+use crate::asking::entry_under;
 use crate::texts::{push_text_of, push_text_under, push_texts};
 use std::alloc::{AllocError, Global};
 use std::marker::Model;
@@ -402,6 +403,6 @@ fn push_entry<C: Calculator>(
         (C.evaluated calculator.old, C.restarted calculator.old)
         (C.evaluated calculator.new, C.restarted calculator.new) }
 {
-    let value = calculator.what_if_value(replacements, formula_cell, pairs)?;
+    let value = entry_under(calculator, replacements, formula_cell, pairs)?;
     push_text_of(alloc, &value, texts)
 }

@@ -8,6 +8,7 @@ ghost use Rattle.wi_reports.specs.Rows.{text_under};
 ghost use Rattle.wi_sheet.specs.Demand.{demanded};
 ghost use Rattle.wi_reports.specs.Looks.{Costs, cells_cases};
 
+use crate::asking::value_under;
 use std::alloc::{AllocError, Global};
 use wi_propagate::Calculator;
 use wi_values::{Address, Rect, Replacement, Value};
@@ -52,7 +53,7 @@ pub(crate) fn push_text_under<C: Calculator>(
         (C.evaluated calculator.old, C.restarted calculator.old)
         (C.evaluated calculator.new, C.restarted calculator.new) }
 {
-    let value = calculator.value(replacements, at)?;
+    let value = value_under(calculator, replacements, at)?;
     push_text_of(alloc, &value, texts)
 }
 

@@ -37,7 +37,8 @@ use wi_reports::{DataTable, SecondInput};
 use wi_values::{Address, Name, Rect};
 
 /// A sheet, and what is kept beside it: scenarios, sessions and the log of edits. It is seen as the definition's state,
-/// the cells that are pending for each session, and the counts that the calculator tells.
+/// the cells that are pending for each session, and the counts that the calculator tells. Between two calls the
+/// calculator is light.
 #[derive(Drop)]
 pub struct Workbook<C: Calculator> {
     calculator: C,
@@ -46,6 +47,7 @@ pub struct Workbook<C: Calculator> {
 }
 
 impl<C: Calculator> Model for Workbook<C> {
+    ghost use Rattle.std.specs.Prelude.{◌≡◌, true};
     ghost use Rattle.wi_scenarios.specs.Pending.{Book};
     ghost use Rattle.wi_scenarios.specs.Inner.Sound.{book_of, IsSound};
 
@@ -62,7 +64,8 @@ impl<C: Calculator> Model for Workbook<C> {
     ghost view = { λ w. book_of
         (C.stored w.calculator) (C.evaluated w.calculator) (C.restarted w.calculator) w.desk };
 
-    ghost invariant = { λ w. IsSound C.marked (C.stored w.calculator) w.desk };
+    ghost invariant = { λ w. IsSound C.marked (C.stored w.calculator) w.desk
+        × (C.is_light w.calculator ≡ true) };
 }
 
 /// The texts of names.
@@ -78,7 +81,7 @@ fn as_text<'a>(name: Option<Name<'a>>) -> Option<&'a str>
 impl<C: Calculator> Workbook<C> {
     /// A workbook over a calculator, whose sheet it takes over, with the one session `main`, for which the occupied
     /// cells are pending. The calculator is dropped if memory runs out. The work grows with the occupied cells.
-    pub fn new(alloc: Global, calculator: C) -> Result<Workbook<C>, AllocError>
+    pub fn new(alloc: Global, mut calculator: C) -> Result<Workbook<C>, AllocError>
     where
         C: Drop,
         ensures state { IfOk result (λ w. w.state ≡ state_over (C.stored calculator)) }
@@ -87,6 +90,7 @@ impl<C: Calculator> Workbook<C> {
         ensures counts { IfOk result (λ w. (w.evaluated ≡ C.evaluated calculator)
             × (w.restarted ≡ C.restarted calculator)) }
     {
+        calculator.lighten();
         let desk = new_desk(alloc, &calculator)?;
         Ok(Workbook {
             calculator,
@@ -115,14 +119,16 @@ impl<C: Calculator> Workbook<C> {
         ensures { IsEditBy C.marked (at ∷ []) (command.Set force (cell at) content.now)
             result self.old self.new }
     {
-        set(
+        let done = set(
             self.alloc,
             &mut self.calculator,
             &mut self.desk,
             at,
             content,
             force,
-        )
+        );
+        self.calculator.lighten();
+        done
     }
 
     /// Empties the cells of a rectangle of any size. `force` is as of `set`. The work grows with its occupied cells;
@@ -131,13 +137,15 @@ impl<C: Calculator> Workbook<C> {
         ensures { IsEditBy C.marked (occupied_in self.old.state.stored.sheet area)
             (command.Clear force (corners area)) result self.old self.new }
     {
-        clear(
+        let done = clear(
             self.alloc,
             &mut self.calculator,
             &mut self.desk,
             area,
             force,
-        )
+        );
+        self.calculator.lighten();
+        done
     }
 
     /// Copies a cell's content to each cell of a rectangle, also where that cell lies in it. The relative parts of a
@@ -147,14 +155,16 @@ impl<C: Calculator> Workbook<C> {
         ensures { IsEditBy C.marked (cells_of area) (command.Fill force (cell from) (corners area))
             result self.old self.new }
     {
-        fill(
+        let done = fill(
             self.alloc,
             &mut self.calculator,
             &mut self.desk,
             from,
             area,
             force,
-        )
+        );
+        self.calculator.lighten();
+        done
     }
 
     /// Puts the fields of a CSV text into cells by the rule of imported fields: field j of record i goes i - 1 below
@@ -163,14 +173,16 @@ impl<C: Calculator> Workbook<C> {
     pub fn import(&mut self, at: Address, text: &[u8], force: bool) -> Result<(), Refusal>
         ensures { IsImport C.marked force at text.now result self.old self.new }
     {
-        import(
+        let done = import(
             self.alloc,
             &mut self.calculator,
             &mut self.desk,
             at,
             text,
             force,
-        )
+        );
+        self.calculator.lighten();
+        done
     }
 
     /// Puts a replacement into a scenario, which is made if need be, by the rule of imported fields; an empty content
@@ -263,7 +275,9 @@ impl<C: Calculator> Workbook<C> {
         ensures { Looks (command.Show (corners area)) (asked_by_show self.old.state area)
             result self.old self.new out.old.items out.new.items }
     {
-        show(self.alloc, &mut self.calculator, &self.desk, area, out)
+        let done = show(self.alloc, &mut self.calculator, &self.desk, area, out);
+        self.calculator.lighten();
+        done
     }
 
     /// Appends the records of `show`, after a line that tells how many lines they are: `lines`, a space and the count
@@ -272,7 +286,9 @@ impl<C: Calculator> Workbook<C> {
         ensures { Looks (command.Export (corners area)) (asked_by_show self.old.state area)
             result self.old self.new out.old.items out.new.items }
     {
-        export(self.alloc, &mut self.calculator, &self.desk, area, out)
+        let done = export(self.alloc, &mut self.calculator, &self.desk, area, out);
+        self.calculator.lighten();
+        done
     }
 
     /// Appends a record for each cell whose value isn't what the current session was last shown: address, kind and
@@ -283,7 +299,9 @@ impl<C: Calculator> Workbook<C> {
     pub fn changes(&mut self, out: &mut Vec<u8>) -> Result<(), Refusal>
         ensures { IsChanges result self.old self.new out.old.items out.new.items }
     {
-        changes(self.alloc, &mut self.calculator, &mut self.desk, out)
+        let done = changes(self.alloc, &mut self.calculator, &mut self.desk, out);
+        self.calculator.lighten();
+        done
     }
 
     /// Appends a record for each cell of a rectangle whose values under two scenarios differ: address, both texts, and
@@ -307,14 +325,16 @@ impl<C: Calculator> Workbook<C> {
             first: as_text(first),
             second: as_text(second),
         };
-        compare(
+        let done = compare(
             self.alloc,
             &mut self.calculator,
             &self.desk,
             &compared,
             area,
             out,
-        )
+        );
+        self.calculator.lighten();
+        done
     }
 
     /// Appends the records of a table: for each cell X of a column its shown text, and what the formula cell shows if
@@ -342,7 +362,9 @@ impl<C: Calculator> Workbook<C> {
             column,
             second: SecondInput::from_pair(second),
         };
-        table(self.alloc, &mut self.calculator, &self.desk, &asked, out)
+        let done = table(self.alloc, &mut self.calculator, &self.desk, &asked, out);
+        self.calculator.lighten();
+        done
     }
 
     /// Gives back the memory of all that the calculator can find again. Takes none. The work grows with what goes;
@@ -351,6 +373,7 @@ impl<C: Calculator> Workbook<C> {
         ensures { self.new ≡ self.old }
     {
         self.calculator.forget();
+        self.calculator.lighten();
     }
 
     /// Appends a record: a cell's address and its content, which is a formula as printed, a text after an apostrophe,

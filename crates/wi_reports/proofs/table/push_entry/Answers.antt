@@ -1,15 +1,14 @@
 use Rattle.wi_reports.proofs.TextLemmas.{one_shown}
-use Rattle.wi_reports.proofs.CostLemmas.{asked}
 use Rattle.wi_reports.proofs.table.push_entry.Goals as goal
 
-pub what_if_value-requires : goal.what_if_value-requires
-what_if_value-requires g c = c.requires
+pub entry_under-requires : goal.entry_under-requires
+entry_under-requires g c = c.requires
 
 pub returns-clause-text : goal.returns-clause-text
 returns-clause-text g c = one_shown c.push_text_of.result _ _ _ _ c.in_ok-value.ensures.value c.push_text_of.ensures
 
 pub returns-clause-cost : goal.returns-clause-cost
-returns-clause-cost g c = asked _ _ c.in_ok-value.ensures.evaluations c.in_ok-value.ensures.restarts
+returns-clause-cost g c = c.in_ok-value.ensures.cost
 
 pub returns-in_err-value-clause-cost : goal.returns-in_err-value-clause-cost
-returns-in_err-value-clause-cost g c = asked _ _ c.in_err-value.ensures.evaluations c.in_err-value.ensures.restarts
+returns-in_err-value-clause-cost g c = c.in_err-value.ensures.cost

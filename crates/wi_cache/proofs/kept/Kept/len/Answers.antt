@@ -12,9 +12,9 @@ returns-clause-len c =
 pub returns-clause-within : goal.returns-clause-within
 returns-clause-within c =
     let i = c.self.inside in
-    subst (λ (m : KeptValues). length m.entries ≤ m.capacity) c.self.view_is (omega (arith, latest_len i.oldest i.entries.entries, c.self.invariant.1))
+    subst (λ (m : KeptValues). length m.entries ≤ m.capacity) c.self.view_is (omega (arith, latest_len i.oldest i.entries.entries, c.self.invariant.0.1))
 
 pub returns-clause-one_each : goal.returns-clause-one_each
 returns-clause-one_each c =
     let i = c.self.inside in
-    subst (λ (m : KeptValues). HasOneEach m.entries) c.self.view_is (latest_each i.oldest i.entries.entries c.self.invariant.0)
+    subst (λ (m : KeptValues). HasOneEach m.entries) c.self.view_is (latest_each i.oldest i.entries.entries c.self.invariant.0.0)

@@ -1,4 +1,8 @@
 use Rattle.wi_scenarios.proofs.workbook.Workbook.compare.Goals as goal
 
+pub invariant_of-self : goal.invariant_of-self
+invariant_of-self g c = (rw (c.lighten.ensures.same, c.compare-done.ensures.same) c.self.invariant.0, c.lighten.ensures.light)
+
 pub returns : goal.returns
-returns g c = rw (← c.self.view_is, ← c.as_text.ensures, ← c.as_text-2.ensures) c.compare.ensures.looks
+returns g c =
+    rw (c.lighten.ensures.same, c.lighten.ensures.same_evaluations, c.lighten.ensures.same_restarts, ← c.self.view_is, ← c.as_text.ensures, ← c.as_text-2.ensures) c.compare-done.ensures.looks

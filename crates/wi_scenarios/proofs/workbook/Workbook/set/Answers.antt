@@ -1,4 +1,8 @@
 use Rattle.wi_scenarios.proofs.workbook.Workbook.set.Goals as goal
 
+pub invariant_of-self : goal.invariant_of-self
+invariant_of-self g c = (rw c.lighten.ensures.same c.set-done.ensures.sound, c.lighten.ensures.light)
+
 pub returns : goal.returns
-returns g c = let made = c.set.ensures.edit in rw (← c.self.view_is) (search made)
+returns g c =
+    rw (c.lighten.ensures.same, c.lighten.ensures.same_evaluations, c.lighten.ensures.same_restarts, ← c.self.view_is) c.set-done.ensures.edit
