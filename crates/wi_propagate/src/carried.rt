@@ -8,10 +8,13 @@ ghost use Rattle.wi_propagate.specs.Inner.Cones.{AreAllCones};
 ghost use Rattle.wi_propagate.specs.Inner.Keeping.{values_in, AreCarriedCones};
 
 use crate::cones::{Cones, keep_if_few, keep_over_edit};
+use crate::costs::Costs;
 use crate::recurring::Recurring;
 use std::alloc::{AllocError, Global};
 use wi_cache::{GivenUp, Kept};
 use wi_graph::Graph;
+use wi_store::Store;
+use wi_worlds::World;
 
 /// What a question takes over from the one before, and leaves to the next. It stands in a box, so that each question
 /// moves a pointer.
@@ -24,6 +27,8 @@ pub struct Carried {
     pub given_up: GivenUp,
     /// Which replacements come back, by which values have a place in a full list.
     pub recurring: Recurring,
+    /// What values cost, by which they have a place in a list that is too small.
+    pub costs: Costs,
 }
 
 impl Carried {
@@ -40,6 +45,7 @@ impl Carried {
             cones: Cones::new(alloc),
             given_up: GivenUp::new(alloc),
             recurring: Recurring::new(alloc, keep),
+            costs: Costs::new(alloc, keep),
         };
         Ok(Box::new(alloc, carried)?)
     }
@@ -54,6 +60,7 @@ impl Carried {
         self.cones = Cones::new(alloc);
         self.given_up = GivenUp::new(alloc);
         self.recurring.forget();
+        self.costs.forget();
     }
 }
 
@@ -69,12 +76,14 @@ pub(crate) fn forget_carried(alloc: Global, carried: &mut Option<Box<Carried>>)
     }
 }
 
-/// Takes out what is carried, for a question, where questions have had at most so many replaced cells: without the
-/// cones where they are more than it takes over. Takes no memory.
+/// Takes out what is carried, for a question under a world, where questions have had at most so many replaced cells:
+/// without the cones where they are more than it takes over. Takes no memory.
 #[inline(always)]
 pub(crate) fn take_carried(
     alloc: Global,
     widest: usize,
+    store: &Store,
+    world: &World,
     carried: &mut Option<Box<Carried>>,
 ) -> Box<Carried>
     requires { IsSome carried.old }
@@ -87,6 +96,7 @@ pub(crate) fn take_carried(
     let inner = &mut *taken;
     keep_if_few(alloc, widest, &mut inner.cones);
     inner.recurring.begin();
+    inner.costs.begin(store, world);
     taken
 }
 
