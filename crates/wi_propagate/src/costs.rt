@@ -12,6 +12,9 @@ const MOST: u64 = 128;
 /// So many times the least cost is found without a place, before a value has one whatever it cost.
 const PATIENCE: u64 = 8;
 
+/// After so many in turn that had a place whatever they cost, half the cost is needed.
+const MOST_CHEAP: u64 = 32;
+
 /// For how many keys the memory is used again. It is then 24 KB at most.
 const MOST_REUSED: usize = 1_024;
 
@@ -26,9 +29,10 @@ struct Begun {
 /// What values in a full list cost: the cost of one is how many were found on the way to it, itself among them. Where
 /// more values took a place than there are cells, the list is too small for what is asked for, and each is evicted
 /// before it is asked for again. So twice the cost is needed for a place then, and twice that with each turn of the
-/// list: a value in it spares as many evaluations as if all on the way to it were kept. An edit, or other replacements
-/// in a question, begin anew with a place for all. This only chooses which values have a place, so that it costs
-/// evaluations and makes no value wrong.
+/// list: a value in it spares as many evaluations as if all on the way to it were kept. Now and then one that cost less
+/// has a place too, and where such are all that comes, half the cost is needed. An edit, or other replacements in a
+/// question, begin anew with a place for all. This only chooses which values have a place, so that it costs evaluations
+/// and makes no value wrong.
 #[derive(Drop)]
 pub struct Costs {
     // The keys that were made for formulas that may still wait, the last last.
@@ -39,6 +43,8 @@ pub struct Costs {
     waited: u64,
     // The least cost for a place. Costs are counted where it is more than 1.
     least: u64,
+    // How many took a place in turn that cost less.
+    cheap: u64,
     // How many values took a place since the least cost was set, and after how many it is doubled.
     taken: u64,
     turn: u64,
@@ -57,6 +63,7 @@ impl Costs {
             found: 0,
             waited: 0,
             least: 1,
+            cheap: 0,
             taken: 0,
             turn: keep as u64,
             keep: keep as u64,
@@ -87,6 +94,7 @@ impl Costs {
         self.edits = store.edits();
         self.under = world.digest();
         self.least = 1;
+        self.cheap = 0;
         self.taken = 0;
         self.turn = self.keep.max(store.occupied());
     }
@@ -139,8 +147,26 @@ impl Costs {
     /// cost.
     #[inline(never)]
     fn is_dear(&mut self, key: &Key) -> bool {
-        let cost = self.count(key);
-        cost >= self.least || self.waited >= self.least.saturating_mul(PATIENCE)
+        if self.count(key) >= self.least {
+            self.cheap = 0;
+            return true;
+        }
+        if self.waited < self.least.saturating_mul(PATIENCE) {
+            return false;
+        }
+        self.take_cheap();
+        true
+    }
+
+    /// Counts a value that takes a place since none cost enough for long. After many such in turn half the cost is
+    /// needed.
+    fn take_cheap(&mut self) {
+        self.cheap = self.cheap.saturating_add(1);
+        if self.cheap >= MOST_CHEAP {
+            self.cheap = 0;
+            self.taken = 0;
+            self.least = self.least / 2;
+        }
     }
 
     /// Counts a value that was found, and gives its cost. The keys that were made after its own go.
