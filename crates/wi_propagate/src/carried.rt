@@ -8,6 +8,7 @@ ghost use Rattle.wi_propagate.specs.Inner.Cones.{AreAllCones};
 ghost use Rattle.wi_propagate.specs.Inner.Keeping.{values_in, AreCarriedCones};
 
 use crate::cones::{Cones, keep_if_few, keep_over_edit};
+use crate::costs::Costs;
 use crate::recurring::Recurring;
 use std::alloc::{AllocError, Global};
 use wi_cache::{GivenUp, Kept};
@@ -24,6 +25,8 @@ pub struct Carried {
     pub given_up: GivenUp,
     /// Which replacements come back, by which values have a place in a full list.
     pub recurring: Recurring,
+    /// What values cost, by which they have a place in a list that is too small.
+    pub costs: Costs,
 }
 
 impl Carried {
@@ -40,6 +43,7 @@ impl Carried {
             cones: Cones::new(alloc),
             given_up: GivenUp::new(alloc),
             recurring: Recurring::new(alloc, keep),
+            costs: Costs::new(alloc, keep),
         };
         Ok(Box::new(alloc, carried)?)
     }
@@ -54,6 +58,7 @@ impl Carried {
         self.cones = Cones::new(alloc);
         self.given_up = GivenUp::new(alloc);
         self.recurring.forget();
+        self.costs.forget();
     }
 }
 

@@ -95,7 +95,9 @@ impl<'a> Keeping<'a> {
         ensures placed { ArePlaced carried.value.kept }
     {
         let _ = carried.kept.len();
-        carried.given_up.clear(alloc);
+        let inner = &mut *carried;
+        inner.given_up.clear(alloc);
+        inner.costs.begin(store);
         Keeping {
             alloc,
             store,
@@ -124,19 +126,27 @@ impl<'a> Keeping<'a> {
 }
 
 impl<'a> Keeping<'a> {
-    /// Whether a value under replacements has a place in the list: always where one is free or the question came with
-    /// as many replacements, and in a full list where they come back. If memory runs out, all stays as it was.
+    /// Whether a value for a key has a place in the list: always where one is free. In a full list it has none under
+    /// more replacements than the question came with, unless they come back, or where others cost more. If memory runs
+    /// out, all stays as it was.
     #[inline(always)]
-    fn has_place(&mut self, world: &World) -> Result<bool, AllocError>
+    fn has_place(&mut self, key: &Key) -> Result<bool, AllocError>
         ensures same { self.new ≡ self.old }
         ensures full { result ≡ Ok false
             → self.old.values.capacity ≤ length self.old.values.entries }
     {
         let carried = &mut *self.carried;
-        if carried.kept.is_full() && self.own < world.replacements().len() {
-            return carried.recurring.comes_back(world);
+        if !carried.kept.is_full() {
+            return Ok(true);
         }
-        Ok(true)
+        if self.own < key.world.replacements().len() {
+            let is_back = carried.recurring.comes_back(&key.world)?;
+            if !is_back {
+                carried.costs.pass(key);
+                return Ok(false);
+            }
+        }
+        Ok(carried.costs.is_worth(key))
     }
 
     /// Puts a value among those that were given up, so that it is found in this question alone. If memory runs out, all
@@ -173,6 +183,7 @@ impl<'a> Memo for Keeping<'a> {
             world,
         };
         carried.given_up.catch_up(&key)?;
+        carried.costs.note(&key);
         Ok(key)
     }
 
@@ -204,7 +215,7 @@ impl<'a> Memo for Keeping<'a> {
     /// `has_place` says so.
     #[inline(always)]
     fn remember(&mut self, key: Key, value: Value) -> Result<(), AllocError> {
-        if self.has_place(&key.world)? {
+        if self.has_place(&key)? {
             return self.keep(key, value);
         }
         self.put_aside(key, value)

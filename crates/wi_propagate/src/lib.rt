@@ -4,6 +4,7 @@
 mod calculator;
 mod carried;
 mod cones;
+mod costs;
 mod flushing;
 mod generations;
 mod keeping;
