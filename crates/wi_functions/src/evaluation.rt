@@ -302,7 +302,7 @@ fn all_arguments<L: Lookup>(
 fn text_value(alloc: Global, text: &Text) -> Result<Value, Stop<Want>>
     ensures { MatchResult result (λ v. v ≡ Value.Text text.now) (λ s. s ≡ Stop.Memory) }
 {
-    Ok(Value::Text(text.copy(alloc)?))
+    Ok(Value::Text(text.copy()?))
 }
 
 /// A cell's value.

@@ -38,7 +38,7 @@ fn empty_beside(alloc: Global, other: &Value) -> Value
     match other {
         Value::Empty => Value::Number(zero()),
         Value::Number(_) => Value::Number(zero()),
-        Value::Text(_) => Value::Text(Text::new(String::new(alloc))),
+        Value::Text(_) => Value::Text(Text::empty()),
         Value::Logical(_) => Value::Logical(false),
         Value::Fault(_) => Value::Number(zero()),
     }
