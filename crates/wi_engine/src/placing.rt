@@ -142,7 +142,7 @@ fn placed(
 {
     match expr {
         Expr::Number(x) => Ok(Some(Placed::Constant(Value::Number(*x)))),
-        Expr::Text(text) => Ok(Some(Placed::Constant(Value::Text(text.copy(alloc)?)))),
+        Expr::Text(text) => Ok(Some(Placed::Constant(Value::Text(text.copy()?)))),
         Expr::Cell(reference) => placed_cell(alloc, store, places, reference.at),
         Expr::Rectangle(corners) => {
             if corners.one.at == corners.other.at {

@@ -99,7 +99,7 @@ fn value_of<L: Lookup>(alloc: Global, expr: &Expr, lookup: &L) -> Result<Value, 
 {
     match expr {
         Expr::Number(x) => Ok(Value::Number(*x)),
-        Expr::Text(text) => text_value(alloc, text),
+        Expr::Text(text) => text_value(text),
         Expr::Cell(reference) => cell_value(alloc, *reference, lookup),
         Expr::Rectangle(corners) => rectangle_value(alloc, *corners, lookup),
         Expr::Parenthesized(inner) => value_of(alloc, inner, lookup),
@@ -299,10 +299,10 @@ fn all_arguments<L: Lookup>(
 
 /// A text's value.
 #[inline(never)]
-fn text_value(alloc: Global, text: &Text) -> Result<Value, Stop<Want>>
+fn text_value(text: &Text) -> Result<Value, Stop<Want>>
     ensures { MatchResult result (λ v. v ≡ Value.Text text.now) (λ s. s ≡ Stop.Memory) }
 {
-    Ok(Value::Text(text.copy(alloc)?))
+    Ok(Value::Text(text.copy()?))
 }
 
 /// A cell's value.

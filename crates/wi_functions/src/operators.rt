@@ -177,7 +177,7 @@ fn join_shown(alloc: Global, left: &Value, right: &Value) -> Result<Value, Alloc
     let mut text = String::new(alloc);
     left.push_shown(&mut text)?;
     right.push_shown(&mut text)?;
-    Ok(limited_text(text))
+    limited_text(text)
 }
 
 /// Whether the order of two values passes a test, unless one is an error.

@@ -11,34 +11,34 @@ use wi_values::{Text, Value};
 
 /// The order of two values, in which Empty counts as 0, the empty text or FALSE, as the other is. Linear in the shorter
 /// of two texts.
-pub fn compare(alloc: Global, left: &Value, right: &Value) -> Ordering
+pub fn compare(_alloc: Global, left: &Value, right: &Value) -> Ordering
     ensures { result ≡ value_order (beside right.now left.now) (beside left.now right.now) }
 {
     match (left, right) {
         (Value::Number(x), Value::Number(y)) => x.cmp(y),
-        _ => compare_any(alloc, left, right),
+        _ => compare_any(left, right),
     }
 }
 
 /// The order of two values of any kinds, in which Empty counts as 0, the empty text or FALSE, as the other is. It
 /// stands apart, so that numbers are compared at once.
 #[inline(never)]
-fn compare_any(alloc: Global, left: &Value, right: &Value) -> Ordering
+fn compare_any(left: &Value, right: &Value) -> Ordering
     ensures { result ≡ value_order (beside right.now left.now) (beside left.now right.now) }
 {
-    let left_empty = empty_beside(alloc, right);
-    let right_empty = empty_beside(alloc, left);
+    let left_empty = empty_beside(right);
+    let right_empty = empty_beside(left);
     order(or_empty(left, &left_empty), or_empty(right, &right_empty))
 }
 
 /// What Empty counts as beside a value.
-fn empty_beside(alloc: Global, other: &Value) -> Value
+fn empty_beside(other: &Value) -> Value
     ensures { result ≡ empty_beside other.now }
 {
     match other {
         Value::Empty => Value::Number(zero()),
         Value::Number(_) => Value::Number(zero()),
-        Value::Text(_) => Value::Text(Text::new(String::new(alloc))),
+        Value::Text(_) => Value::Text(Text::empty()),
         Value::Logical(_) => Value::Logical(false),
         Value::Fault(_) => Value::Number(zero()),
     }

@@ -99,7 +99,7 @@ impl Expr {
     {
         match self {
             Expr::Number(x) => Ok(Expr::Number(*x)),
-            Expr::Text(s) => text(alloc, s),
+            Expr::Text(s) => text(s),
             Expr::Cell(r) => Ok(Expr::Cell(*r)),
             Expr::Rectangle(corners) => Ok(Expr::Rectangle(*corners)),
             Expr::Parenthesized(t) => Ok(Expr::Parenthesized(copied(alloc, t)?)),
@@ -144,10 +144,10 @@ fn all_copied(alloc: Global, exprs: &[Expr]) -> Result<Vec<Expr>, AllocError>
 }
 
 /// The tree of a text.
-pub(crate) fn text(alloc: Global, content: &Text) -> Result<Expr, AllocError>
+pub(crate) fn text(content: &Text) -> Result<Expr, AllocError>
     ensures { IfOk result (λ e. tree_of e ≡ tree.text content.now) }
 {
-    Ok(Expr::Text(content.copy(alloc)?))
+    Ok(Expr::Text(content.copy()?))
 }
 
 /// The tree of an operator between two operands.
@@ -183,7 +183,7 @@ pub(crate) fn what_if(
 pub(crate) fn call(alloc: Global, name: &Text, parameters: Vec<Expr>) -> Result<Expr, AllocError>
     ensures { IfOk result (λ e. tree_of e ≡ tree.call name.now (all_of parameters.items)) }
 {
-    let name = name.copy(alloc)?;
+    let name = name.copy()?;
     let parts = Box::new(alloc, (name, parameters))?;
     Ok(Expr::Call(parts))
 }

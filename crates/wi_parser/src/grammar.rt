@@ -111,7 +111,7 @@ impl<F: Fn(Global, &mut Symbols<'_>, usize) -> Result<Expr, ParseFault>> Grammar
         };
         match symbol {
             Symbol::Number(x) => Ok(number(*x)),
-            Symbol::Text(content) => Ok(text(self.alloc, content)?),
+            Symbol::Text(content) => Ok(text(content)?),
             Symbol::Cell(at) => Ok(cell(*at)),
             Symbol::Rectangle(corners) => Ok(rectangle(*corners)),
             Symbol::Open => self.enclosed(symbols),

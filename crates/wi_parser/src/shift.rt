@@ -101,7 +101,7 @@ pub(crate) fn shifted(
 {
     match expr {
         Expr::Number(x) => Ok(Expr::Number(*x)),
-        Expr::Text(s) => text(alloc, s),
+        Expr::Text(s) => text(s),
         Expr::Cell(r) => Ok(Expr::Cell(moved(r, rows, columns))),
         Expr::Rectangle(corners) => Ok(Expr::Rectangle(Corners {
             one: moved(&corners.one, rows, columns),

@@ -45,7 +45,7 @@ impl Symbol {
     {
         match token.kind {
             Kind::Number => Ok(number(token.text.as_bytes())),
-            Kind::Text => Ok(Symbol::Text(Text::new(text_content(alloc, token.text)?))),
+            Kind::Text => Ok(Symbol::Text(Text::new(text_content(alloc, token.text)?)?)),
             Kind::Reference => Ok(reference(token.text.as_bytes())),
             Kind::Rectangle => Ok(rectangle(token.text.as_bytes())),
             Kind::Mark(mark) => Ok(of_mark(mark)),
@@ -76,7 +76,7 @@ fn name(alloc: Global, text: &str) -> Result<Symbol, AllocError>
     if text.eq_ignore_ascii_case("MULTIPLE.OPERATIONS") {
         return Ok(Symbol::WhatIf);
     }
-    Ok(Symbol::Name(Text::new(text.to_ascii_uppercase(alloc)?)))
+    Ok(Symbol::Name(Text::new(text.to_ascii_uppercase(alloc)?)?))
 }
 
 fn cell_named(cell: CellText<'_>) -> Symbol

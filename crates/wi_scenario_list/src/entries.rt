@@ -24,8 +24,7 @@ pub(crate) fn merge(alloc: Global, map: &mut ValueMap, others: &ValueMap) -> Res
     Ok(())
 }
 
-/// A copy of a map, with a copy of each value. The work for each entry grows with its value, and with the logarithm of
-/// the count of all.
+/// A copy of a map, with a copy of each value. The work for each entry grows with the logarithm of the count of all.
 pub(crate) fn copied(alloc: Global, map: &ValueMap) -> Result<ValueMap, AllocError>
     ensures { IfOk result (λ m. m.entries ≡ map.now.entries) }
 {

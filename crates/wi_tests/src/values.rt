@@ -7,7 +7,7 @@ use wi_fraction::Fraction;
 use wi_values::{Address, Replacement, Text, Value};
 
 fn expect_text_copied(rt: &impl Abort, alloc: Global, text: &Text, wanted: &str) {
-    let copy = text.copy(alloc).expect(rt, wanted);
+    let copy = text.copy().expect(rt, wanted);
     expect_text(rt, "copy", copy.as_str(), wanted);
 }
 
@@ -19,7 +19,7 @@ fn expect_copied(rt: &impl Abort, alloc: Global, value: &Value) {
 
 #[test]
 fn copies_are_equal(rt: HostRuntime) {
-    let text = Text::new(String::from_str(rt.alloc(), "1/3").expect(&rt, "a text"));
+    let text = Text::from_str(rt.alloc(), "1/3").expect(&rt, "a text");
     expect_text_copied(&rt, rt.alloc(), &text, "1/3");
     let word = Value::Text(text);
     let number = Value::Number(Fraction::new(1, 3).expect(&rt, "a third"));

@@ -3,3 +3,4 @@ pub mod Cells
 pub mod Import
 pub mod Names
 pub mod Same
+pub mod Shared

@@ -1,6 +1,6 @@
 //! The text of a value.
 
-ghost use Rattle.std.specs.Prelude.{◌≡◌, IfOk, string_bytes};
+ghost use Rattle.std.specs.Prelude.{◌≡◌, [], IfOk, string_bytes};
 ghost use Rattle.std.specs.Hash as fed;
 ghost use Rattle.std.specs.Str.{bytes_eq};
 ghost use Rattle.wi_values.specs.Inner.Same.{same_text_equiv, same_text_hash, same_text_partial};
@@ -8,51 +8,67 @@ ghost use Rattle.wi_values.specs.Inner.Same.{same_text_equiv, same_text_hash, sa
 use std::alloc::{AllocError, Global};
 use std::hash::{Hash, Hasher};
 use std::marker::Model;
+use std::rc::RcStr;
 
 /// The greatest length of a text in bytes.
 pub const MAX_TEXT: usize = 32_767;
 
-/// The text of a value, seen as its bytes.
+/// The text of a value, seen as its bytes. Copies share them.
 #[derive(Drop)]
 pub struct Text {
-    content: String,
+    /// Nothing where the text is empty.
+    shared: Option<RcStr>,
 }
 
 impl Model for Text {
-    ghost use Rattle.std.specs.Prelude.{List, ℕ, string_bytes};
+    ghost use Rattle.std.specs.Prelude.{List, ℕ};
+    ghost use Rattle.wi_values.specs.Inner.Shared.{shared_bytes};
 
     ghost Value = { List ℕ };
 
-    ghost view = { λ t. string_bytes t.content };
+    ghost view = { λ t. shared_bytes t.shared };
 }
 
 impl Text {
-    /// The text of these bytes.
-    pub fn new(content: String) -> Text
-        ensures { result ≡ string_bytes content }
+    /// The text without bytes. Takes no memory.
+    pub fn empty() -> Text
+        ensures { result ≡ [] }
     {
-        Text { content }
+        Text { shared: None }
+    }
+
+    /// The text of these bytes.
+    pub fn new(content: String) -> Result<Text, AllocError>
+        ensures { IfOk result (λ t. t ≡ string_bytes content) }
+    {
+        let shared = RcStr::from_string(content)?;
+        Ok(Text {
+            shared: Some(shared),
+        })
     }
 
     /// A copy of a text.
     pub fn from_str(alloc: Global, content: &str) -> Result<Text, AllocError>
         ensures { IfOk result (λ t. t ≡ content.now) }
     {
-        let content = String::from_str(alloc, content)?;
-        Ok(Text { content })
+        Text::new(String::from_str(alloc, content)?)
     }
 
     pub fn as_str(&self) -> &str
         ensures { result.now ≡ self.now }
     {
-        self.content.as_str()
+        match &self.shared {
+            Some(shared) => shared.as_str(),
+            None => "",
+        }
     }
 
-    /// A copy of the text. The work, and the memory that it takes, grow with its length.
-    pub fn copy(&self, alloc: Global) -> Result<Text, AllocError>
+    /// A copy that shares the bytes: whatever their count, it takes the same work, and no memory.
+    pub fn copy(&self) -> Result<Text, AllocError>
         ensures { IfOk result (λ t. t ≡ self.now) }
     {
-        Text::from_str(alloc, self.as_str())
+        let shared = self.shared.clone()?;
+        Ok(Text { shared })
     }
 }
 

@@ -55,15 +55,14 @@ pub enum Value {
 }
 
 impl Value {
-    /// A copy of the value. The work, and the memory that it takes, grow with a text's length; no other kind takes
-    /// memory.
-    pub fn copy(&self, alloc: Global) -> Result<Value, AllocError>
+    /// A copy of the value, which shares a text: it takes the same work whatever the text's length, and no memory.
+    pub fn copy(&self, _alloc: Global) -> Result<Value, AllocError>
         ensures { IfOk result (λ v. v ≡ self.now) }
     {
         match self {
             Value::Empty => Ok(Value::Empty),
             Value::Number(x) => Ok(Value::Number(*x)),
-            Value::Text(t) => Ok(Value::Text(t.copy(alloc)?)),
+            Value::Text(t) => Ok(Value::Text(t.copy()?)),
             Value::Logical(b) => Ok(Value::Logical(*b)),
             Value::Fault(e) => Ok(Value::Fault(*e)),
         }

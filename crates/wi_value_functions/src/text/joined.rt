@@ -37,7 +37,7 @@ fn concatenate(alloc: Global, values: &[Value]) -> Result<Value, NoValue<AllocEr
     for value in values {
         push_text(value, &mut joined)?;
     }
-    Ok(limited_text(joined))
+    Ok(limited_text(joined)?)
 }
 
 /// Appends what a value is as a text.
@@ -70,5 +70,6 @@ fn repeated(alloc: Global, text: &str, number: u128) -> Result<Value, NoValue<Al
         return Err(NoValue::Error(ErrorKind::BadValue));
     }
     let all = text.repeat(alloc, times)?;
-    Ok(Value::Text(Text::new(all)))
+    let text = Text::new(all)?;
+    Ok(Value::Text(text))
 }

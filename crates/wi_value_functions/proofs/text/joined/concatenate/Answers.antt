@@ -18,5 +18,5 @@ loop-value-preserved c =
 
 pub returns : goal.returns
 returns c =
-    c.limited_text.ensures
+    c.in_ok-limited_text.ensures
     ∙ joined_all (string_bytes c.loop-value.joined) c.args.values.now c.loop-value.value-index (concatenated c.args.values.now) c.loop-value-test.false c.loop-value.invariant

@@ -8,5 +8,5 @@ returns-then-saturating_mul-gt-MAX_TEXT c =
 
 pub returns : goal.returns
 returns c =
-    not_too_often c.args.number c.min-times.result c.saturating_mul.result c.args.text.now c.new.result c.min-times.ensures c.saturating_mul.ensures
-    (omega (arith, c.if-saturating_mul-gt-MAX_TEXT.false)) (c.new.ensures ∙ c.in_ok-all.ensures.bytes)
+    not_too_often c.args.number c.min-times.result c.saturating_mul.result c.args.text.now c.in_ok-text.text c.min-times.ensures c.saturating_mul.ensures
+    (omega (arith, c.if-saturating_mul-gt-MAX_TEXT.false)) (c.in_ok-text.ensures ∙ c.in_ok-all.ensures.bytes)
