@@ -88,7 +88,7 @@ module _ (sought : Value) (cells : ℕ → Value) (number : ℕ → ℕ) where
   from_zero None = refl
   from_zero (Some i) = let same : 0 + i ≡ i = omega arith in ap (λ (j : ℕ). Some j) same
 
-  -- where the cells are numbered from 0 on, the number of the cell that is found is the place that is found among the values
+  -- where the cells are numbered from 0 on, the number of the cell that is found is its place among the values
   pub search_finds : (rule : Rule) (xs : List ℕ) → IsNumbered number 0 xs → option_map number (found_in rule None xs) ≡ position_by rule sought (map cells xs)
   search_finds FirstEqual xs h = first_found 0 xs h ∙ from_zero (position (is_match is_eq sought) (map cells xs))
   search_finds LastAtMost xs h = last_at_most 0 None xs h

@@ -28,8 +28,8 @@ struct Begun {
 /// What values cost that come to a full list: the cost of one is how many were found on the way to it, itself among
 /// them. In a list that is too small for what is asked for, each value is evicted before it is asked for again, and
 /// those that cost most are missed most. So there are two ways: all values have a place, or those alone that cost much.
-/// After an edit it is all, for a turn: as many values as the sheet has cells, or the list places. Then the other way is
-/// tried, and that one goes on by which more questions are answered in a turn. So a list that is large enough for its
+/// After an edit it is all, for a turn: as many values as the sheet has cells, or the list places. Then the other way
+/// is tried, and that one goes on by which more questions are answered in a turn. So a list that is large enough for its
 /// questions loses little. This only chooses which values have a place: it costs evaluations and makes no value wrong.
 #[derive(Drop)]
 pub struct Costs {
