@@ -47,7 +47,8 @@ impl Content {
         Ok(Content::Constant(Value::Text(Text::from_str(alloc, text)?)))
     }
 
-    /// A copy of the content, which shares a text. The work, and the memory that it takes, grow with its formula's tree.
+    /// A copy of the content, which shares a text. The work, and the memory that it takes, grow with its formula's
+    /// tree.
     pub fn copy(&self, alloc: Global) -> Result<Content, AllocError>
         ensures { IfOk result (λ c. c ≡ self.now) }
     {
