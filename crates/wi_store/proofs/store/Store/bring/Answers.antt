@@ -1,4 +1,4 @@
-use Rattle.wi_store.proofs.Words.{◌∙◌, refl, sym, ap, length, err_from_is_err_and, sheet_in, Stored}
+use Rattle.wi_store.proofs.Words.{◌∙◌, refl, sym, ap, length, err_from_is_err_and, rules, sheet_in, Stored}
 use Rattle.wi_store.proofs.RoomLemmas.{sheet_in-same, length-taken}
 use Rattle.wi_store.proofs.EditLemmas.{occupied_after, applies_after_refusal, applies_after_acceptance}
 use Rattle.wi_store.proofs.store.Store.bring.Goals as goal
@@ -28,3 +28,9 @@ returns c =
     c.self.inside.edits _ c.self.inside.limits c.args.brought.now c.args.brought.now
     c.self.view_is refl c.in_ok-answer.ensures.cause
     (sheet_in-same c.edit-answer.new.rooms.entries c.sweep.new.rooms.entries c.in_ok-answer.ensures.edit.order c.sweep.ensures.between.order c.sweep.ensures.same ∙ c.in_ok-answer.ensures.done)
+
+pub invariant_of-self : goal.invariant_of-self
+invariant_of-self c = search rules
+
+pub invariant_of-self-2 : goal.invariant_of-self-2
+invariant_of-self-2 c = search rules
