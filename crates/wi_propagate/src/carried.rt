@@ -13,8 +13,6 @@ use crate::recurring::Recurring;
 use std::alloc::{AllocError, Global};
 use wi_cache::{GivenUp, Kept};
 use wi_graph::Graph;
-use wi_store::Store;
-use wi_worlds::World;
 
 /// What a question takes over from the one before, and leaves to the next. It stands in a box, so that each question
 /// moves a pointer.
@@ -76,14 +74,12 @@ pub(crate) fn forget_carried(alloc: Global, carried: &mut Option<Box<Carried>>)
     }
 }
 
-/// Takes out what is carried, for a question under a world, where questions have had at most so many replaced cells:
-/// without the cones where they are more than it takes over. Takes no memory.
+/// Takes out what is carried, for a question, where questions have had at most so many replaced cells: without the
+/// cones where they are more than it takes over. Takes no memory.
 #[inline(always)]
 pub(crate) fn take_carried(
     alloc: Global,
     widest: usize,
-    store: &Store,
-    world: &World,
     carried: &mut Option<Box<Carried>>,
 ) -> Box<Carried>
     requires { IsSome carried.old }
@@ -96,7 +92,6 @@ pub(crate) fn take_carried(
     let inner = &mut *taken;
     keep_if_few(alloc, widest, &mut inner.cones);
     inner.recurring.begin();
-    inner.costs.begin(store, world);
     taken
 }
 

@@ -1,19 +1,19 @@
-//! How many values were found on the way to another.
+//! Which values have a place in a list that is too small, by what they cost.
 
 use std::alloc::Global;
 use wi_cache::Key;
 use wi_store::Store;
 use wi_values::Address;
-use wi_worlds::World;
 
-/// The greatest cost from which on a value has a place.
-const MOST: u64 = 128;
+/// The least cost for a place, where not all values have one.
+const LEAST: u64 = 100;
 
-/// So many times the least cost is found without a place, before a value has one whatever it cost.
-const PATIENCE: u64 = 8;
+/// After so many turns one way the other is tried again.
+const MOST_TURNS: u64 = 64;
 
-/// After so many in turn that had a place whatever they cost, half the cost is needed.
-const MOST_CHEAP: u64 = 32;
+/// All have a place again where so many times as many questions are answered so: what is asked differs from turn to
+/// turn, and what had its place for its cost is lost then.
+const FAR_MORE: u64 = 4;
 
 /// For how many keys the memory is used again. It is then 24 KB at most.
 const MOST_REUSED: usize = 1_024;
@@ -26,49 +26,47 @@ struct Begun {
     found: u64,
 }
 
-/// What values in a full list cost: the cost of one is how many were found on the way to it, itself among them. Where
-/// more values took a place than there are cells, the list is too small for what is asked for, and each is evicted
-/// before it is asked for again. So twice the cost is needed for a place then, and twice that with each turn of the
-/// list: a value in it spares as many evaluations as if all on the way to it were kept. Now and then one that cost less
-/// has a place too, and where such are all that comes, half the cost is needed. An edit, or other replacements in a
-/// question, begin anew with a place for all. This only chooses which values have a place, so that it costs evaluations
-/// and makes no value wrong.
+/// What values cost that come to a full list: the cost of one is how many were found on the way to it, itself among
+/// them. In a list that is too small for what is asked for, each value is evicted before it is asked for again, and
+/// those that cost most are missed most. So there are two ways: all values have a place, or those alone that cost much.
+/// After an edit it is all, for a turn: as many values as the sheet has cells, or the list places. Then the other way
+/// is tried, and goes on unless far fewer questions are answered in a turn so, as where each asks for what was found
+/// just before it. This only chooses which values have a place: it costs evaluations and makes no value wrong.
 #[derive(Drop)]
 pub struct Costs {
-    // The keys that were made for formulas that may still wait, the last last.
-    begun: Vec<Begun>,
-    // How many values were found since the costs are counted.
-    found: u64,
-    // How many were found then since one took a place.
-    waited: u64,
-    // The least cost for a place. Costs are counted where it is more than 1.
-    least: u64,
-    // How many took a place in turn that cost less.
-    cheap: u64,
-    // How many values took a place since the least cost was set, and after how many it is doubled.
-    taken: u64,
+    // Whether those alone have a place that cost much.
+    choosy: bool,
+    // How many values there are in a turn, and how many are still to come in this one.
     turn: u64,
-    // How many values the list has.
+    left: u64,
+    // How many turns went this way in a row.
+    turns: u64,
+    // How many questions came in this turn, and in the last one that went the other way.
+    asked: u64,
+    others: u64,
+    // While costs are counted: the keys that were made for formulas that may still wait, the last last, and how many
+    // values were found.
+    begun: Vec<Begun>,
+    found: u64,
+    // How many values the list has, and how many edits there were at the last question.
     keep: u64,
-    // How many edits there were at the last question, and the digest of the replacements with which it came.
     edits: u64,
-    under: u64,
 }
 
 impl Costs {
     /// Nothing counted yet, for a list of so many values. Takes no memory.
     pub(crate) fn new(alloc: Global, keep: usize) -> Costs {
         Costs {
+            choosy: false,
+            turn: keep as u64,
+            left: keep as u64,
+            turns: 0,
+            asked: 0,
+            others: u64::MAX,
             begun: Vec::new(alloc),
             found: 0,
-            waited: 0,
-            least: 1,
-            cheap: 0,
-            taken: 0,
-            turn: keep as u64,
             keep: keep as u64,
             edits: 0,
-            under: 0,
         }
     }
 
@@ -78,31 +76,22 @@ impl Costs {
         self.begun.shrink_to_fit();
     }
 
-    /// Goes on to the next question, under a world.
+    /// Goes on to the next question. Takes no memory.
     #[inline(always)]
-    pub(crate) fn begin(&mut self, store: &Store, world: &World) {
-        if self.edits != store.edits() || self.under != world.digest() {
-            self.begin_anew(store, world);
+    pub(crate) fn begin(&mut self, store: &Store) {
+        if self.edits != store.edits() {
+            self.begin_anew(store);
         }
+        self.asked = self.asked.saturating_add(1);
         if !self.begun.is_empty() {
             self.forget_begun();
         }
     }
 
-    /// Begins anew with a place for all.
-    fn begin_anew(&mut self, store: &Store, world: &World) {
-        self.edits = store.edits();
-        self.under = world.digest();
-        self.least = 1;
-        self.cheap = 0;
-        self.taken = 0;
-        self.turn = self.keep.max(store.occupied());
-    }
-
     /// Notes that a key was made. Where memory runs out it isn't noted, and its value has a place.
     #[inline(always)]
     pub(crate) fn note(&mut self, key: &Key) {
-        if self.least > 1 {
+        if self.choosy {
             self.put_begun(key);
         }
     }
@@ -110,18 +99,51 @@ impl Costs {
     /// Whether a value that was found is worth a place in a full list.
     #[inline(always)]
     pub(crate) fn is_worth(&mut self, key: &Key) -> bool {
-        if self.least > 1 && !self.is_dear(key) {
-            return false;
+        if self.left == 0 {
+            self.end_turn();
         }
-        self.take_place();
-        true
+        self.left = self.left.saturating_sub(1);
+        !self.choosy || self.count(key) >= LEAST
     }
 
     /// Notes that a value was found that has no place.
     #[inline(always)]
     pub(crate) fn pass(&mut self, key: &Key) {
-        if self.least > 1 {
+        if self.choosy {
             self.count(key);
+        }
+    }
+
+    /// Gives a place to all for a turn.
+    fn begin_anew(&mut self, store: &Store) {
+        self.edits = store.edits();
+        self.choosy = false;
+        self.turn = self.keep.max(store.occupied());
+        self.left = self.turn;
+        self.turns = 0;
+        self.asked = 0;
+        self.others = u64::MAX;
+    }
+
+    /// Goes on to the next turn: the other way if that is better, or wasn't tried for long.
+    #[inline(never)]
+    fn end_turn(&mut self) {
+        self.turns = self.turns.saturating_add(1);
+        if self.asked < self.enough() || self.turns >= MOST_TURNS {
+            self.choosy = !self.choosy;
+            self.turns = 0;
+            self.others = self.asked;
+        }
+        self.asked = 0;
+        self.left = self.turn;
+    }
+
+    /// How many questions in a turn are enough to go on this way.
+    fn enough(&self) -> u64 {
+        if self.choosy {
+            self.others / FAR_MORE
+        } else {
+            self.others.saturating_mul(FAR_MORE)
         }
     }
 
@@ -143,36 +165,11 @@ impl Costs {
         });
     }
 
-    /// Whether a value that was found cost enough, or so many were found without a place that one has it whatever it
-    /// cost.
+    /// Counts a value that was found, and gives its cost, or the least for a place where its key wasn't noted. The keys
+    /// that were made after its own go.
     #[inline(never)]
-    fn is_dear(&mut self, key: &Key) -> bool {
-        if self.count(key) >= self.least {
-            self.cheap = 0;
-            return true;
-        }
-        if self.waited < self.least.saturating_mul(PATIENCE) {
-            return false;
-        }
-        self.take_cheap();
-        true
-    }
-
-    /// Counts a value that takes a place since none cost enough for long. After many such in turn half the cost is
-    /// needed.
-    fn take_cheap(&mut self) {
-        self.cheap = self.cheap.saturating_add(1);
-        if self.cheap >= MOST_CHEAP {
-            self.cheap = 0;
-            self.taken = 0;
-            self.least = self.least / 2;
-        }
-    }
-
-    /// Counts a value that was found, and gives its cost. The keys that were made after its own go.
     fn count(&mut self, key: &Key) -> u64 {
         self.found = self.found.wrapping_add(1);
-        self.waited = self.waited.saturating_add(1);
         match last_begun(self.begun.as_slice(), key) {
             Some((place, found)) => {
                 self.begun.truncate(place);
@@ -180,20 +177,8 @@ impl Costs {
             }
             None => {
                 self.begun.clear();
-                self.least
+                LEAST
             }
-        }
-    }
-
-    /// Counts a value that takes a place.
-    #[inline(always)]
-    fn take_place(&mut self) {
-        self.waited = 0;
-        self.taken = self.taken.saturating_add(1);
-        if self.taken >= self.turn {
-            self.taken = 0;
-            self.turn = self.keep;
-            self.least = self.least.saturating_mul(2).min(MOST);
         }
     }
 }

@@ -95,7 +95,9 @@ impl<'a> Keeping<'a> {
         ensures placed { ArePlaced carried.value.kept }
     {
         let _ = carried.kept.len();
-        carried.given_up.clear(alloc);
+        let inner = &mut *carried;
+        inner.given_up.clear(alloc);
+        inner.costs.begin(store);
         Keeping {
             alloc,
             store,

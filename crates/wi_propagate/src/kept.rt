@@ -222,13 +222,7 @@ impl KeptCalculator {
         let world = self.worlds.world_for(self.alloc, replacements)?;
         self.generations.flush(&self.graph)?;
         self.widest = self.widest.max(replacements.len());
-        let carried = take_carried(
-            self.alloc,
-            self.widest,
-            &self.store,
-            &world,
-            &mut self.carried,
-        );
+        let carried = take_carried(self.alloc, self.widest, &mut self.carried);
         let memo = Keeping::new(
             self.alloc,
             &self.store,
@@ -282,13 +276,7 @@ impl KeptCalculator {
         let world = self.worlds.world_for(self.alloc, replacements)?;
         self.generations.flush(&self.graph)?;
         self.widest = self.widest.max(replacements.len());
-        let carried = take_carried(
-            self.alloc,
-            self.widest,
-            &self.store,
-            &world,
-            &mut self.carried,
-        );
+        let carried = take_carried(self.alloc, self.widest, &mut self.carried);
         let memo = Keeping::new(
             self.alloc,
             &self.store,

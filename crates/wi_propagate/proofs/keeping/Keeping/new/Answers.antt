@@ -9,5 +9,5 @@ pub returns-clause-memo : goal.returns-clause-memo
 returns-clause-memo c =
     let s = c.args.store.now in
     let gs = flushed s.sheet c.args.generations.now.edited_at in
-    begun_is_memo s.sheet s.edits gs c.clear.new.self.entries c.deref_mut.result.now.kept c.clear.ensures
-    (subst (λ (h : Carried). IsKeepingRight (keeping s.sheet s.edits gs [] h.kept)) (sym c.deref_mut.ensures.value) c.requires.right)
+    begun_is_memo s.sheet s.edits gs c.clear.new.self.entries c.deref_mut-inner.result.now.kept c.clear.ensures
+    (subst (λ (h : Carried). IsKeepingRight (keeping s.sheet s.edits gs [] h.kept)) (sym c.deref_mut-inner.ensures.value) c.requires.right)
