@@ -6,12 +6,13 @@ use wi_store::Store;
 use wi_values::Address;
 
 /// The least cost for a place, where not all values have one.
-const LEAST: u64 = 64;
+const LEAST: u64 = 100;
 
 /// After so many turns one way the other is tried again.
 const MOST_TURNS: u64 = 64;
 
-/// So many times as many questions are to be answered for a place for all to be taken up again.
+/// All have a place again where so many times as many questions are answered so: what is asked differs from turn to
+/// turn, and what had its place for its cost is lost then.
 const FAR_MORE: u64 = 4;
 
 /// For how many keys the memory is used again. It is then 24 KB at most.
@@ -29,8 +30,8 @@ struct Begun {
 /// them. In a list that is too small for what is asked for, each value is evicted before it is asked for again, and
 /// those that cost most are missed most. So there are two ways: all values have a place, or those alone that cost much.
 /// After an edit it is all, for a turn: as many values as the sheet has cells, or the list places. Then the other way
-/// is tried, and that one goes on by which more questions are answered in a turn. So a list that is large enough for its
-/// questions loses little. This only chooses which values have a place: it costs evaluations and makes no value wrong.
+/// is tried, and goes on unless far fewer questions are answered in a turn so, as where each asks for what was found
+/// just before it. This only chooses which values have a place: it costs evaluations and makes no value wrong.
 #[derive(Drop)]
 pub struct Costs {
     // Whether those alone have a place that cost much.
@@ -124,7 +125,7 @@ impl Costs {
         self.others = u64::MAX;
     }
 
-    /// Goes on to the next turn: the other way if that answered more questions, or wasn't tried for long.
+    /// Goes on to the next turn: the other way if that is better, or wasn't tried for long.
     #[inline(never)]
     fn end_turn(&mut self) {
         self.turns = self.turns.saturating_add(1);
@@ -137,13 +138,12 @@ impl Costs {
         self.left = self.turn;
     }
 
-    /// How many questions in a turn are enough to go on this way. Questions differ from turn to turn, and all that has
-    /// a place for its cost is lost in a turn with a place for all.
+    /// How many questions in a turn are enough to go on this way.
     fn enough(&self) -> u64 {
         if self.choosy {
             self.others / FAR_MORE
         } else {
-            self.others
+            self.others.saturating_mul(FAR_MORE)
         }
     }
 
