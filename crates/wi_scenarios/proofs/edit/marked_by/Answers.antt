@@ -1,4 +1,4 @@
-use Rattle.wi_scenarios.proofs.Words.{◌∙◌, length, is_pending_for_all, ◌≡◌, ◌<◌, arith, common_steps}
+use Rattle.wi_scenarios.proofs.Words.{length, is_pending_for_all, ◌≡◌, ◌<◌, arith, common_steps, keys_of, rules}
 use Rattle.wi_scenarios.proofs.EditLemmas.{none_marked, some_marked, if_ok_both}
 use Rattle.wi_scenarios.proofs.edit.marked_by.Goals as goal
 
@@ -15,6 +15,7 @@ pub returns : goal.returns
 returns g c =
     let contents = c.args.contents.now in
     let some : 0 < length contents = grind (arith, common_steps) in
+    let keys : c.as_slice.result.now ≡ keys_of contents = search rules in
     if_ok_both _ _ _ c.mark_beyond.result
-    (λ found m o. some_marked g.C.Calculator.marked (g.C.Calculator.stored c.args.calculator.now).sheet (is_pending_for_all c.args.sessions.now) contents c.as_slice.result.now found.items some (c.as_slice.ensures ∙ c.in_ok-cells.ensures) m o)
+    (λ found m o. some_marked g.C.Calculator.marked (g.C.Calculator.stored c.args.calculator.now).sheet (is_pending_for_all c.args.sessions.now) contents c.as_slice.result.now found.items some keys m o)
     c.mark_beyond.ensures.marked c.mark_beyond.ensures.others
