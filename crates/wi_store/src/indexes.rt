@@ -1,6 +1,6 @@
 //! Indexes of rows and columns that are searched again and again.
 
-ghost use Rattle.std.specs.Prelude.{◌≡◌, None, IfOk, IfSome, OnOk};
+ghost use Rattle.std.specs.Prelude.{◌≡◌, [], None, IfOk, IfSome, IsTrue, OnOk};
 ghost use Rattle.wi_parser.specs.Sheet.{Sheet};
 ghost use Rattle.wi_tiles.specs.Rooms.{AreBetweenEdits};
 ghost use Rattle.wi_store.specs.Store.{IsFirstNumber, contents_in};
@@ -63,9 +63,18 @@ impl Indexes {
     pub(crate) fn clear(&mut self)
         ensures { (s : Sheet) → AreIndexesOf s self.new }
     {
+        if self.is_empty() {
+            return;
+        }
         self.made.clear();
         self.searches.clear();
-        self.searched.set(None);
+    }
+
+    /// Whether there is none, and no search is noted.
+    fn is_empty(&self) -> bool
+        ensures { IsTrue result → self.now.made.items ≡ [] }
+    {
+        self.made.is_empty() && self.searches.is_empty()
     }
 
     /// The first cell of a row or column with a number, where it has an index. Else the search is noted. The work grows
