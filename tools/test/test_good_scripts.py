@@ -27,6 +27,7 @@ ABOUT_SCRIPTS = {
     "formula-command": {Kind.TEXT_FOR_NUMBER},
     "import-and-export": {Kind.FORMULA_AS_TEXT},
     "input-is-not-read": {Kind.UNREAD_INPUT},
+    "look-ups-again": {Kind.OVER_FORMULA},
     "scenario-cuts-no-cycle": {Kind.ERROR_IN_REPLY},
     "second-replacement-reads-first-input": {Kind.UNREAD_INPUT},
     "table-one-input": {Kind.ERROR_IN_REPLY},
