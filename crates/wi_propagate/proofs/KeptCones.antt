@@ -1,5 +1,6 @@
 -- Cones that are kept over an edit.
-use Rattle.std.proofs.Common.{length}
+use Rattle.std.proofs.Common.{length, arith}
+use Rattle.std.proofs.lemmas.Bool.{lt-ltb}
 use Rattle.std.specs.Prelude.{nat_lt}
 use Rattle.wi_values.specs.Address.{is_one_of}
 use Rattle.wi_worlds.specs.Reached.{is_known, reached_cells}
@@ -25,7 +26,7 @@ cones_over es s t flushed a b h = record {
 
 in_one : (xs : List ℕ) (a : ℕ) → is_one_of xs a ≡ true → nat_lt 0 (length xs) ≡ true
 in_one [] a h = cc
-in_one (x ∷ xs) a h = refl
+in_one (x ∷ xs) a h = lt-ltb 0 (length (x ∷ xs)) (omega arith)
 
 -- where each cell that is in one of them is read by the same cells
 pub cones_beside : (s t : Sheet) (flushed : ReachTable) → AreReadAlike (is_in_one flushed) s t → AreAllCones s flushed → AreAllCones t flushed
