@@ -10,11 +10,13 @@ from bench.models import cells, chain, csv, each, edits_in_turn, edits_with_look
 
 @dataclass(frozen=True)
 class Case:
-    """What makes the script, the first n, and why it takes more than twice as much at 2n, where that is the work's own."""
+    """What makes the script, the first n, why it takes more than twice as much at 2n, where that is the work's own, and the greatest n, with what
+    it takes, where there is one and that is little."""
 
     make: Callable[[int], list[str]]
     size: int
     own: str = ""
+    end: str = ""
 
     @property
     def name(self) -> str:
@@ -24,6 +26,11 @@ class Case:
     def what(self) -> str:
         """What the script does."""
         return " ".join((inspect.getdoc(self.make) or "").split())
+
+    @property
+    def told(self) -> list[tuple[str, str]]:
+        """What is told of its growth, each with its head."""
+        return [(head, text) for head, text in (("its own", self.own), ("its end", self.end)) if text]
 
 
 # ---- edits, and a look after each
@@ -168,6 +175,11 @@ def sum_of_formulas(n: int) -> list[str]:
 def prefix_sums_shown(n: int) -> list[str]:
     """Each of n sums adds the numbers of a column down to its row, and all are shown."""
     return numbers(n) + prefix_sums(n) + [f"show B1:B{n}"]
+
+
+def running_counts(n: int) -> list[str]:
+    """Each of n formulas counts the cells above it, which have such formulas too, and the last is shown."""
+    return ["set A1 1"] + [f"set A{row} =COUNT([.A1:.A{row - 1}])" for row in range(2, n + 1)] + [f"show A{n}"]
 
 
 def whole_column_sums(n: int) -> list[str]:
@@ -356,24 +368,25 @@ CASES = {case.name: case for case in (
     Case(relink_chains, 150),
     Case(edits_in_big_cycle_reads_change, 75),
     Case(cycle_closed_and_opened, 100),
-    Case(readers_along_row_from_right, 300),
-    Case(wide_row_from_right, 2_000),
+    Case(readers_along_row_from_right, 300, end="a row has room for 5,461 of these, which take 400 M"),
+    Case(wide_row_from_right, 2_000, end="a row has 16,384 cells, which take 330 M"),
     Case(wide_sum_of_refs, 50),
     Case(wide_sum_of_refs_shuffled, 50),
     Case(wide_sum_of_kept_refs, 50),
     Case(wide_sum_function_of_refs, 50),
-    Case(wide_whatifs, 20),
+    Case(wide_whatifs, 20, end="a formula has room for 101 what-ifs, which take 9 M"),
     Case(sum_of_formulas, 1_000),
     Case(prefix_sums_shown, 200, own="n sums of up to n numbers"),
+    Case(running_counts, 50, own="each of n formulas reads all above it"),
     Case(whole_column_sums, 500),
     Case(vlookup_n_by_n, 200),
     Case(vlookup_n_by_n_formulas, 75),
-    Case(sumif_n_by_n, 100),
+    Case(sumif_n_by_n, 100, own="each of n SUMIFs adds n/10 numbers"),
     Case(match_sorted, 200),
     Case(nested_whatif_distinct_inputs, 75),
     Case(whatifs_many_inputs, 125),
     Case(whatifs_many_inputs_again, 100),
-    Case(whatifs_under_replacements, 20),
+    Case(whatifs_under_replacements, 20, end="a scenario has 256 replacements at most, which take 25 M"),
     Case(whatif_column, 250),
     Case(table_of_one_input, 500),
     Case(table_of_two_inputs, 15, own="it has n by n entries"),

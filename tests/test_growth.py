@@ -36,8 +36,8 @@ def looks(n: int) -> list[str]:
     return ["show A1"] * n
 
 
-def grown(once: int, twice: int, four_times: int, own: str = "") -> Any:
-    return TOOL.Growth(Case(loads, 10, own), once, twice, four_times)
+def grown(once: int, twice: int, four_times: int, own: str = "", end: str = "") -> Any:
+    return TOOL.Growth(Case(loads, 10, own, end), once, twice, four_times)
 
 
 class Counts(unittest.TestCase):
@@ -65,11 +65,16 @@ class Ratios(unittest.TestCase):
     def test_it_may_be_the_work_s_own(self) -> None:
         self.assertFalse(grown(10, 20, 60, "n by n").is_too_much)
 
+    def test_it_may_have_an_end(self) -> None:
+        self.assertFalse(grown(10, 20, 60, end="ten at most").is_too_much)
+
     def test_a_row_tells_millions(self) -> None:
         row = TOOL.Growth(Case(loads, 10), 1_000_000, 2_500_000, 7_004_000).row()
         self.assertEqual(row.split(), ["loads", "10", "1.00", "2.50", "7.00", "3.00", "too", "much"])
         row = TOOL.Growth(Case(loads, 10, "n by n"), 1_000_000, 2_500_000, 7_004_000).row()
         self.assertEqual(row.split(maxsplit=6)[-1], "its own: n by n")
+        row = TOOL.Growth(Case(loads, 10, end="ten at most"), 1_000_000, 2_500_000, 7_004_000).row()
+        self.assertEqual(row.split(maxsplit=6)[-1], "its end: ten at most")
 
 
 class Runs(ScratchTest):
@@ -120,7 +125,7 @@ class Runs(ScratchTest):
         self.assertEqual(status, 0)
         self.assertEqual([it.split(maxsplit=1) for it in lines], [
             ["loads", "It loads n lines."],
-            ["looks", "It looks n times. More than twice at 2n: n by n."],
+            ["looks", "It looks n times. Its own: n by n."],
         ])
 
     def test_a_refused_command_is_told(self) -> None:
@@ -161,6 +166,7 @@ class Scripts(unittest.TestCase):
         for name, case in CASES.items():
             self.assertTrue(case.what.endswith("."), name)
             self.assertFalse(case.own.endswith("."), name)
+            self.assertFalse(case.end.endswith("."), name)
 
 
 if __name__ == "__main__":
